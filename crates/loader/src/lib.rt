@@ -1,0 +1,11 @@
+// The entries for the station's C loader, declared in include/tehilgam.h. C passes a slice as a pointer and then a length.
+ghost use mathlib.Core.Path.{_≡_};
+ghost use Rattle.pec.specs.Pec.{pec};
+
+// The PEC of some bytes.
+#[no_mangle]
+pub extern "C" fn tehilgam_pec(bytes: &[u8]) -> u8
+    ensures { λ r. ⌜ r ≡ pec (now (bytes .entry)) ⌝ }
+{
+    pec::of(bytes)
+}

@@ -1,0 +1,93 @@
+-- Laws of the PEC's definitions, which callers use in place of their text. Assumes nothing.
+use mathlib.Core.Path.{_≡_, refl}
+use mathlib.Core.Bool.{Bool, true, false, cond}
+use mathlib.Core.List.{List, [], _∷_, _++_}
+use Prim.Native.Nat.{ℕ, zero, suc, _+_, _-_, _*_, _%_, _<_, _≤_}
+use native.Mathlib.Omega.{arith}
+use native.Mathlib.Numerals.{add-one}
+use lib.Dec.{lit<}
+use lib.Bits.{bitXor, xor-lt}
+use lib.ListN.{length, getD, take, drop, length-drop}
+use lib.Seq.{take-suc, getD-drop}
+use Rattle.pec.specs.Pec.{topBit, shift, shifts, remainder, step, pecFrom, pec}
+use Rattle.pec.specs.Lent.{IsTable, stepWith, runWith}
+
+-- ---- a register is a byte
+
+taken-off-lt : (top : Bool) → cond top 7 0 < 256
+taken-off-lt true = lit< tt
+taken-off-lt false = lit< tt
+
+shift-lt : (c : ℕ) → shift c < 256
+unfolding shift
+shift-lt c = xor-lt 8 (2 * c % 256) (cond (topBit c) 7 0) (omega arith) (taken-off-lt (topBit c))
+
+shifts-lt : (n c : ℕ) → c < 256 → shifts n c < 256
+unfolding shifts
+shifts-lt zero c h = h
+shifts-lt (suc n) c h = shifts-lt n (shift c) (shift-lt c)
+
+pub remainder-lt : (b : ℕ) → remainder b < 256
+unfolding remainder shifts
+remainder-lt b = shifts-lt 7 (shift b) (shift-lt b)
+
+pub step-lt : (c b : ℕ) → step c b < 256
+unfolding step
+step-lt c b = remainder-lt (bitXor c b)
+
+pub pecFrom-lt : (c : ℕ) (bs : List ℕ) → c < 256 → pecFrom c bs < 256
+unfolding pecFrom
+pecFrom-lt c [] h = h
+pecFrom-lt c (b ∷ bs) h = pecFrom-lt (step c b) bs (step-lt c b)
+
+pub pec-lt : (bs : List ℕ) → pec bs < 256
+pec-lt bs = pecFrom-lt 0 bs (lit< tt)
+
+-- ---- bytes one after the other, and lists one behind the other
+
+pub pecFrom-nil : (c : ℕ) → pecFrom c [] ≡ c
+unfolding pecFrom
+pecFrom-nil c = refl
+
+pub pecFrom-cons : (c b : ℕ) (bs : List ℕ) → pecFrom c (b ∷ bs) ≡ pecFrom (step c b) bs
+unfolding pecFrom
+pecFrom-cons c b bs = refl
+
+pub pecFrom-append : (c : ℕ) (xs ys : List ℕ) → pecFrom c (xs ++ ys) ≡ pecFrom (pecFrom c xs) ys
+unfolding pecFrom
+pecFrom-append c [] ys = refl
+pecFrom-append c (x ∷ xs) ys = pecFrom-append (step c x) xs ys
+
+pub runWith-append : (table : List ℕ) (c : ℕ) (xs ys : List ℕ) → runWith table c (xs ++ ys) ≡ runWith table (runWith table c xs) ys
+unfolding runWith
+runWith-append table c [] ys = refl
+runWith-append table c (x ∷ xs) ys = runWith-append table (stepWith table c x) xs ys
+
+-- ---- a loop over a slice: the bytes before i + 1, by those before i
+
+pub runWith-take : (table : List ℕ) (c : ℕ) (s : List ℕ) (i : ℕ) → i < length s →
+    runWith table c (take (i + 1) s) ≡ stepWith table (runWith table c (take i s)) (getD s i 0)
+unfolding runWith
+runWith-take table c s i h = rw (add-one, take-suc s i 0, runWith-append)
+
+-- the same over the part of a slice that starts at a, `&s[a..i]`
+pub runWith-part : (table : List ℕ) (c : ℕ) (s : List ℕ) (a i : ℕ) → a ≤ i → i < length s →
+    runWith table c (take (i + 1 - a) (drop a s)) ≡ stepWith table (runWith table c (take (i - a) (drop a s))) (getD s i 0)
+runWith-part table c s a i h k =
+    let n : i + 1 - a ≡ i - a + 1 = omega arith in
+    let inside : i - a < length (drop a s) = simp length-drop (omega arith) in
+    let back : a + (i - a) ≡ i = omega arith in
+    rw (n, runWith-take table c (drop a s) (i - a) inside, getD-drop, back)
+
+-- ---- a table that keeps the rule gives the PEC's own steps
+
+module _ {table : List ℕ} (rule : IsTable table) where
+  pub step-right : (c b : ℕ) → c < 256 → b < 256 → stepWith table c b ≡ step c b
+  unfolding stepWith step
+  step-right c b h k = rule .entry (bitXor c b) (xor-lt 8 c b h k)
+
+  pub run-right : (c : ℕ) (bs : List ℕ) → c < 256 → ((i : ℕ) → getD bs i 0 < 256) → runWith table c bs ≡ pecFrom c bs
+  unfolding runWith pecFrom
+  run-right c [] h bytes = refl
+  run-right c (b ∷ bs) h bytes =
+      rw (step-right c b h (bytes 0)) (run-right (step c b) bs (step-lt c b) (λ i. bytes (suc i)))
