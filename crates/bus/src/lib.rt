@@ -1,0 +1,230 @@
+// The bus: its codes and addresses, the requests, and the form of a reply.
+ghost use mathlib.Core.Path.{_≡_};
+ghost use mathlib.Core.List.{[], _∷_};
+ghost use Prim.Native.Nat.{_+_, _≤_, _%_, _/_};
+ghost use lib.ListN.{length};
+ghost use Rattle.bus.specs.Bus.{framed, writeOf, pointTo, readOf, noRequest, wordBytes, reserved};
+ghost use Rattle.bus.specs.Form.{wordOf, sealedOf, readForm, formOf};
+
+// Eight bytes, of which `used` are sent; the others are zeros.
+pub struct Request {
+    pub bytes: [u8; 8],
+    pub used: u8,
+    pub reads: bool,
+}
+
+pub struct Bus {}
+
+impl Bus {
+    pub const WRITE: u8 = 0xC0;
+
+    pub const READ: u8 = 0xC1;
+
+    // Command codes.
+    pub const POINT: u8 = 0xC7;
+
+    pub const DATA: u8 = 0xC5;
+
+    pub const BURST: u8 = 0xC6;
+
+    pub const COMMAND: u8 = 0xE7;
+
+    pub const IDENTITY: u8 = 0xAD;
+
+    pub const REVISION: u8 = 0xAE;
+
+    // Lines 3 and 4 of a file, which are not interpreted.
+    pub const NOTE_3: u8 = 0x01;
+
+    pub const NOTE_4: u8 = 0x02;
+
+    // Register addresses.
+    pub const TRIM: u16 = 0x00A2;
+
+    pub const COUNTER: u16 = 0x0035;
+
+    pub const FLAG: u16 = 0xBD87;
+
+    pub const STATUS: u16 = 0x007E;
+
+    pub const BANKS: u16 = 0x007F;
+
+    pub const CRC: u16 = 0x0094;
+
+    // A write of one data byte.
+    pub fn write1(command: u8, a: u8) -> Request
+        ensures { λ r. ⌜ r ≡ writeOf command (a ∷ []) ⌝ }
+    {
+        let body = [Bus::WRITE, command, a];
+        Request {
+            bytes: [Bus::WRITE, command, a, pec::of(&body), 0, 0, 0, 0],
+            used: 4,
+            reads: false,
+        }
+    }
+
+    // A write of two data bytes with this PEC.
+    pub fn framed2(command: u8, a: u8, b: u8, pec: u8) -> Request
+        ensures { λ r. ⌜ r ≡ framed (0xC0 ∷ command ∷ a ∷ b ∷ []) pec ⌝ }
+    {
+        Request {
+            bytes: [Bus::WRITE, command, a, b, pec, 0, 0, 0],
+            used: 5,
+            reads: false,
+        }
+    }
+
+    // A write of four data bytes with this PEC.
+    pub fn framed4(command: u8, a: u8, b: u8, c: u8, d: u8, pec: u8) -> Request
+        ensures { λ r. ⌜ r ≡ framed (0xC0 ∷ command ∷ a ∷ b ∷ c ∷ d ∷ []) pec ⌝ }
+    {
+        Request {
+            bytes: [Bus::WRITE, command, a, b, c, d, pec, 0],
+            used: 7,
+            reads: false,
+        }
+    }
+
+    pub fn write2(command: u8, a: u8, b: u8) -> Request
+        ensures { λ r. ⌜ r ≡ writeOf command (a ∷ b ∷ []) ⌝ }
+    {
+        let body = [Bus::WRITE, command, a, b];
+        Bus::framed2(command, a, b, pec::of(&body))
+    }
+
+    // The write that points to a register, low byte first.
+    pub fn point(register: u16) -> Request
+        ensures { λ r. ⌜ r ≡ pointTo (register % 256) (register / 256) ⌝ }
+    {
+        Bus::write2(Bus::POINT, (register % 256) as u8, (register / 256) as u8)
+    }
+
+    // A write of a word, lowest byte first.
+    pub fn write4(command: u8, word: u32) -> Request
+        ensures { λ r. ⌜ r ≡ writeOf command (wordBytes word) ⌝ }
+    {
+        let a = (word % 256) as u8;
+        let b = (word / 256 % 256) as u8;
+        let c = (word / 65536 % 256) as u8;
+        let d = (word / 16777216 % 256) as u8;
+        let body = [Bus::WRITE, command, a, b, c, d];
+        Bus::framed4(command, a, b, c, d, pec::of(&body))
+    }
+
+    // A read whose reply has so many bytes.
+    pub fn read(command: u8, count: u8) -> Request
+        ensures { λ r. ⌜ r ≡ readOf command count ⌝ }
+    {
+        Request {
+            bytes: [Bus::WRITE, command, Bus::READ, count, 0, 0, 0, 0],
+            used: 4,
+            reads: true,
+        }
+    }
+
+    // A request of zeros, which is none.
+    pub fn none() -> Request
+        ensures { λ r. ⌜ r ≡ noRequest ⌝ }
+    {
+        Request {
+            bytes: [0; 8],
+            used: 0,
+            reads: false,
+        }
+    }
+
+    // Whether RESTORE_CFG may not be this code.
+    pub fn reserved(command: u8) -> bool
+        ensures { λ r. ⌜ r ≡ reserved command ⌝ }
+    {
+        if command == Bus::DATA {
+            return true;
+        }
+        if command == Bus::BURST {
+            return true;
+        }
+        if command == Bus::POINT {
+            return true;
+        }
+        if command == Bus::COMMAND {
+            return true;
+        }
+        if command == Bus::IDENTITY {
+            return true;
+        }
+        command == Bus::REVISION
+    }
+}
+
+// What a reply is found to be: 20, 21 or 22, or in form with the word read (0 for a write).
+pub enum Form {
+    Unanswered,
+    Misshapen,
+    Miscoded,
+    Good(u32),
+}
+
+// Four bytes, lowest first.
+fn word(a: u8, b: u8, c: u8, d: u8) -> u32
+    ensures { λ r. ⌜ r ≡ wordOf a b c d ⌝ }
+{
+    a as u32 + b as u32 * 256 + c as u32 * 65536 + d as u32 * 16777216
+}
+
+fn sealed(asked: [u8; 8], bytes: &[u8], at: usize) -> Form
+    requires { ⌜ (at ≤ 1) × (length (now bytes) ≡ at + 5) ⌝ }
+    ensures { λ r. ⌜ r ≡ sealedOf asked (now (bytes .entry)) at ⌝ }
+{
+    let last = at + 4;
+    let start = pec::of(&asked[..3]);
+    if pec::run(start, &bytes[..last]) == bytes[last] {
+        Form::Good(word(bytes[at], bytes[at + 1], bytes[at + 2], bytes[at + 3]))
+    } else {
+        Form::Miscoded
+    }
+}
+
+fn read_form(asked: [u8; 8], bytes: &[u8]) -> Form
+    ensures { λ r. ⌜ r ≡ readForm asked (now (bytes .entry)) ⌝ }
+{
+    let n = bytes.len();
+    if n == asked[3] as usize {
+        if n == 5 {
+            return sealed(asked, bytes, 0);
+        }
+        if n == 6 {
+            if bytes[0] == 4 {
+                sealed(asked, bytes, 1)
+            } else {
+                Form::Misshapen
+            }
+        } else {
+            Form::Misshapen
+        }
+    } else {
+        Form::Misshapen
+    }
+}
+
+impl Request {
+    // The form of a reply to this request.
+    pub fn form(self, kind: u8, bytes: &[u8]) -> Form
+        ensures { λ r. ⌜ r ≡ formOf self kind (now (bytes .entry)) ⌝ }
+    {
+        if kind == 0 {
+            return Form::Unanswered;
+        }
+        if 1 < kind {
+            return Form::Misshapen;
+        }
+        if self.reads {
+            let asked = self.bytes;
+            return read_form(asked, bytes);
+        }
+        if bytes.len() == 0 {
+            Form::Good(0)
+        } else {
+            Form::Misshapen
+        }
+    }
+}

@@ -1,0 +1,4 @@
+pub mod Basics
+pub mod Parts
+pub mod Cuts
+pub mod Right

@@ -1,0 +1,40 @@
+-- Reading at a place by lent tables: the run of digits is cut off, and what follows it must end the line. By tables that keep
+-- their rules it is the line's reading (proofs/Right.antt, `lent-right`). Assumes nothing.
+use Prim.Native.Nat.{ℕ, _+_}
+use mathlib.Core.Bool.{cond}
+use mathlib.Core.List.{List, [], _∷_}
+use lib.ListN.{length, getD, take, drop}
+use lib.Dec.{eqb, ltb}
+use Rattle.pec.specs.Lent.{runWith}
+use Rattle.counts.specs.declared.LineNumber.{LineNumber}
+use Rattle.line.specs.Lines.{crLf}
+use Rattle.line.specs.Digits.{digitBy, digitRun}
+use Rattle.line.specs.Reading.{readDigits, stepBy}
+use Rattle.line.specs.declared.Fault.the-variants.{Char}
+use Rattle.line.specs.declared.LineReading.{LineReading}
+use Rattle.line.specs.declared.Ending.{Ending}
+use Rattle.line.specs.declared.Ending.the-variants.{Other, Next}
+use Rattle.line.specs.declared.Step.{Step}
+use Rattle.line.specs.declared.Step.the-variants.{End, Stopped}
+
+-- what stands at the place e: the end of a line, with the place behind it, or something else
+unfoldable pub endingOf : ℕ → List ℕ → Ending
+endingOf e [] = Next e
+endingOf e (b ∷ s) = cond (eqb b 10) (Next (e + 1)) (cond (crLf b (getD s 0 0)) (Next (e + 2)) Other)
+
+module _ (digits table : List ℕ) (n : LineNumber) where
+  abbrev pub readBy : List ℕ → LineReading
+  readBy t = readDigits (digitBy digits) (runWith table 0) n t
+
+  unfoldable pub byEnding : List ℕ → Ending → Step
+  byEnding t Other = Stopped Char
+  byEnding t (Next next) = stepBy (readBy t) next
+
+  abbrev pub runAt : ℕ → List ℕ → ℕ
+  runAt at s = digitRun (digitBy digits) (drop at s)
+
+  unfoldable pub lentStep : ℕ → List ℕ → Step
+  lentStep at s =
+      cond (ltb at (length s))
+      (byEnding (take (runAt at s) (drop at s)) (endingOf (at + runAt at s) (drop (at + runAt at s) s)))
+      End

@@ -1,0 +1,5 @@
+pub mod Lines
+pub mod Digits
+pub mod Reading
+pub mod Lent
+pub mod Form

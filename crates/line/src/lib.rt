@@ -1,0 +1,164 @@
+// One line of the text (document 01, "Lines of the file"): its digits, its values, and its reading as an enum. Two tables are
+// made once for a file and lent down: what each byte counts as a digit, and the remainders of the packet error code.
+mod digits_table;
+mod scan;
+mod tests;
+mod values;
+
+use counts::LineNumber;
+use digits_table::VALUES;
+use scan::end_at;
+use scan::line_end;
+use scan::run_end;
+use tests::bad_pairs;
+use tests::crc_right;
+use tests::form_right;
+use tests::length_right;
+use values::line_of;
+ghost use mathlib.Core.Path.{_≡_};
+ghost use lib.ListN.{drop};
+ghost use Prim.Native.Nat.{_+_};
+ghost use Rattle.pec.specs.Pec.{pec};
+ghost use Rattle.pec.specs.Lent.{runWith};
+ghost use Rattle.line.specs.Lines.{placeOf};
+ghost use Rattle.line.specs.Digits.{IsDigits, digitBy, valuesOf};
+ghost use Rattle.line.specs.Reading.{faultNumber, readValues, readDigits, stepBy, stepAt};
+ghost use Rattle.line.specs.Lent.{lentStep};
+
+// What a good line says: its command, how many data bytes it has, the first four of them (zeros where there are fewer), its CRC.
+pub struct Line {
+    pub command: u8,
+    pub count: usize,
+    pub d0: u8,
+    pub d1: u8,
+    pub d2: u8,
+    pub d3: u8,
+    pub crc: u8,
+}
+
+// Numbers 2 to 6 of document 01, "Numbers for a file".
+pub enum Fault {
+    Char,
+    Pairs,
+    Length,
+    Crc,
+    Form,
+}
+
+// A line's reading: the good line, or the first fault of 2 to 6.
+pub enum LineReading {
+    Good(Line),
+    Refused(Fault),
+}
+
+// Reading at a place: nothing is left, a good line with the place behind it, or a refusal.
+pub enum Step {
+    End,
+    Took(Line, usize),
+    Stopped(Fault),
+}
+
+// What follows a run of digits: the end of the line, with the place behind it, or something else.
+enum Ending {
+    Other,
+    Next(usize),
+}
+
+impl Fault {
+    // The document's number.
+    pub fn number(self) -> u8
+        ensures { λ r. ⌜ r ≡ faultNumber self ⌝ }
+    {
+        match self {
+            Fault::Char => 2,
+            Fault::Pairs => 3,
+            Fault::Length => 4,
+            Fault::Crc => 5,
+            Fault::Form => 6,
+        }
+    }
+}
+
+// The table of digits, to be made once and lent.
+pub fn digits() -> [u8; 256]
+    ensures { λ r. ⌜ IsDigits r ⌝ }
+{
+    VALUES
+}
+
+// The last three tests of a line, on its values.
+fn read_values(digits: &[u8; 256], table: &[u8; 256], t: &[u8], n: LineNumber) -> LineReading
+    ensures { λ r. ⌜ r ≡ readValues (runWith (now (table .entry)) 0) n (valuesOf (digitBy (now (digits .entry))) (now (t .entry))) ⌝ }
+{
+    if length_right(digits, t) {
+        if crc_right(digits, table, t) {
+            if form_right(digits, t, n) {
+                LineReading::Good(line_of(digits, t))
+            } else {
+                LineReading::Refused(Fault::Form)
+            }
+        } else {
+            LineReading::Refused(Fault::Crc)
+        }
+    } else {
+        LineReading::Refused(Fault::Length)
+    }
+}
+
+// The last four, on a text of digits.
+fn read_digits(digits: &[u8; 256], table: &[u8; 256], t: &[u8], n: LineNumber) -> LineReading
+    ensures { λ r. ⌜ r ≡ readDigits (digitBy (now (digits .entry))) (runWith (now (table .entry)) 0) n (now (t .entry)) ⌝ }
+{
+    if bad_pairs(t.len()) {
+        LineReading::Refused(Fault::Pairs)
+    } else {
+        read_values(digits, table, t, n)
+    }
+}
+
+fn step_by(reading: LineReading, next: usize) -> Step
+    ensures { λ r. ⌜ r ≡ stepBy reading next ⌝ }
+{
+    match reading {
+        LineReading::Good(line) => Step::Took(line, next),
+        LineReading::Refused(fault) => Step::Stopped(fault),
+    }
+}
+
+// The reading of the line that starts at a place, if one does.
+pub fn read_at(digits: &[u8; 256], table: &[u8; 256], s: &[u8], at: usize, n: LineNumber) -> Step
+    ensures { λ r. ⌜ r ≡ lentStep (now (digits .entry)) (now (table .entry)) n at (now (s .entry)) ⌝ }
+{
+    if at < s.len() {
+        let end = run_end(digits, s, at);
+        let ending = end_at(s, end);
+        match ending {
+            Ending::Other => Step::Stopped(Fault::Char),
+            Ending::Next(next) => step_by(read_digits(digits, table, &s[at..end], n), next),
+        }
+    } else {
+        Step::End
+    }
+}
+
+// The same for one line alone: the tables are made for it.
+pub fn read_one(s: &[u8], at: usize, n: LineNumber) -> Step
+    ensures { λ r. ⌜ r ≡ stepAt n at (now (s .entry)) ⌝ }
+{
+    let digits = digits();
+    let table = pec::table();
+    read_at(&digits, &table, s, at, n)
+}
+
+// Where the line starts that comes behind some lines from a place on.
+pub fn skip(s: &[u8], at: usize, lines: usize) -> usize
+    ensures { λ r. ⌜ r ≡ at + placeOf lines (drop at (now (s .entry))) ⌝ }
+{
+    let mut i = at;
+    let mut left = lines;
+    while 0 < left {
+        i = line_end(s, i);
+        left -= 1;
+    }
+    i
+}

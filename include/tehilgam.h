@@ -1,0 +1,29 @@
+/* The entries of libloader.a, the archive that `rt staticlib loader` writes for x86-64 Linux.
+ *
+ * Both are pure: they keep no state, call nothing, allocate nothing, write no memory of the caller's, and may be called from
+ * several threads at once. They read exactly the bytes that they are given and return for every content and every length.
+ *
+ * The pointer must be good for `length` bytes. With length 0 it is never read through, so any pointer will do, a null pointer
+ * too.
+ */
+#ifndef TEHILGAM_H
+#define TEHILGAM_H
+
+#include <stddef.h>
+#include <stdint.h>
+
+#ifdef __cplusplus
+extern "C" {
+#endif
+
+/* The SMBus packet error code of some bytes: CRC-8, polynomial x^8 + x^2 + x + 1, start 0, high bit first, nothing inverted.
+ * The code of no bytes is 0. For a write, pass address, command and data; for a read, the write address, the command, the
+ * read address and the bytes read before the code. "123456789" gives 0xF4.
+ */
+uint8_t tehilgam_pec(const uint8_t *bytes, size_t length);
+
+#ifdef __cplusplus
+}
+#endif
+
+#endif

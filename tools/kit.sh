@@ -1,0 +1,47 @@
+# What the scripts share, for `. tools/kit.sh` from the repository's root: the Rattle kit, found from `rt`, and how its x86-64
+# programs and archives are run and linked on this machine. POSIX sh.
+
+complain() { printf 'tehilgam: %s\n' "$*" >&2; }
+
+# Sets the kit's folders, or says what is missing.
+find_kit() {
+    command -v rt >/dev/null 2>&1 || { complain "the Rattle kit is missing: no 'rt' on the PATH"; return 1; }
+    kit=${RATTLE_HOME:-$(dirname "$(dirname "$(readlink -f "$(command -v rt)")")")}
+    kit_own=$kit/on/$(uname -m)
+    kit_tools=$kit_own/toolchain
+    [ -d "$kit_tools" ] || { complain "the kit at $kit has no toolchain for this machine, $(uname -m)"; return 1; }
+    kit_emulator=$kit_tools/bin/qemu-x86_64
+    [ -x "$kit_emulator" ] || kit_emulator=''
+}
+
+# Installs a Debian package where the command is missing.
+need() { # COMMAND PACKAGE
+    command -v "$1" >/dev/null 2>&1 && return 0
+    echo "installing $2, since $1 is missing"
+    { apt-get update && apt-get install -y --no-install-recommends "$2"; } >/dev/null 2>&1
+    command -v "$1" >/dev/null 2>&1 || { complain "$1 is missing, and the package $2 could not be installed"; return 1; }
+}
+
+# Runs an x86-64 program under the kit's loader and C library, on another processor under its emulator.
+run_x86() { # PROGRAM [WORDS...]
+    ${kit_emulator:+"$kit_emulator"} "$kit_tools/lib/ld-linux-x86-64.so.2" --library-path "$kit_tools/lib" "$@"
+}
+
+# Compiles one C file for x86-64 and links it with an archive that `rt staticlib` wrote. On another processor the kit's clang
+# compiles it, with the headers of this machine's C compiler, and the kit's linker and C library link it.
+link_c() { # OUT SOURCE ARCHIVE
+    need gcc gcc && [ -f /usr/include/stdio.h ] || need gcc libc6-dev || return 1
+    if [ "$(uname -m)" = x86_64 ]; then
+        gcc -std=c11 -O2 -Wall -Wextra -Iinclude -o "$1" "$2" "$3"
+    else
+        "$kit_tools/bin/clang" --target=x86_64-unknown-linux-gnu -std=c11 -O2 -Wall -Wextra -fPIC -nostdinc -Iinclude \
+            -isystem "$(gcc -print-file-name=include)" -isystem "/usr/include/$(gcc -dumpmachine)" -isystem /usr/include \
+            -c "$2" -o "$1.o" &&
+            "$kit_own/bin/rattle-link" --target x86_64-unknown-linux-gnu --toolchain "$kit_tools" -o "$1" "$1.o" "$3"
+    fi
+}
+
+# Runs what link_c made: on x86-64 by itself, elsewhere as every program of the kit.
+run_c() { # PROGRAM [WORDS...]
+    if [ "$(uname -m)" = x86_64 ]; then "$@"; else run_x86 "$@"; fi
+}
