@@ -1,0 +1,56 @@
+-- What the guide's theorems need of a text, as plain facts about its lines, and what follows at once. Assumes nothing.
+use mathlib.Core.Path.{_≡_, refl, _∙_}
+use mathlib.Core.List.{List, [], _∷_}
+use Prim.Native.Nat.{ℕ, _+_, _-_, _/_, _%_, _≤_, _<_}
+use native.Mathlib.Omega.{arith}
+use lib.Dec.{eqb, leb}
+use lib.ListN.{length, getD, drop, length-drop}
+use borrow.Author.Tests.{leb-true}
+use Rattle.counts.specs.declared.Kind.{Kind}
+use Rattle.counts.specs.Counts.{stepOf, configsOf}
+use Rattle.line.specs.Lines.{linesOf}
+use Rattle.line.specs.Digits.{digitVal, valuesOf}
+use Rattle.line.specs.Form.{LineForm}
+use Rattle.line.proofs.Basics.{split}
+use Rattle.image.specs.Says.{fileConfigs, summaryOf}
+use Rattle.image.specs.Meets.{BurnBytes}
+use Rattle.guide.specs.Guide.{linesAs, writeLinesOf}
+
+-- the bytes of the line with this number
+abbrev pub valuesAt : List ℕ → ℕ → List ℕ
+valuesAt text n = valuesOf digitVal (getD (linesOf text) (n - 1) [])
+
+pub record FileFacts (text : List ℕ) : Type 0 where
+  pub many : 5 ≤ length (linesOf text)
+  pub form : (n : ℕ) → 5 ≤ n → n ≤ length (linesOf text) → LineForm n (valuesAt text n)
+  pub burnLast : BurnBytes (valuesAt text (length (linesOf text)))
+  pub burnOnce : (n : ℕ) → 5 ≤ n → n < length (linesOf text) → BurnBytes (valuesAt text n) → ⊥
+
+lines-as-length : (ts : List (List ℕ)) → length (linesAs ts) ≡ length ts
+unfolding linesAs
+lines-as-length [] = refl
+lines-as-length (t ∷ ts) = rw (lines-as-length ts)
+
+pub write-lines-length : (text : List ℕ) → length (writeLinesOf text) ≡ length (linesOf text) - 4
+unfolding writeLinesOf
+write-lines-length text = lines-as-length (drop 4 (linesOf text)) ∙ length-drop 4 (linesOf text)
+
+module _ (text : List ℕ) (facts : FileFacts text) where
+  pub lines-are : summaryOf text .lines ≡ 4 + length (writeLinesOf text)
+  unfolding summaryOf
+  lines-are = omega (arith, facts .many, write-lines-length text)
+
+  pub some-line : 1 ≤ length (writeLinesOf text)
+  some-line = omega (arith, facts .many, write-lines-length text)
+
+-- of every text: at most eight configurations
+configs-few : (kind : Kind) (n : ℕ) → configsOf kind n ≤ 8
+unfolding configsOf
+configs-few kind n =
+    split (eqb (n % stepOf kind) 12)
+    (λ e. split (leb (n / stepOf kind) 8) (λ f. rw (e, f) (leb-true (n / stepOf kind) 8 f)) (λ f. rw (e, f) (omega arith)))
+    (λ e. rw e (omega arith))
+
+pub few-configs : (text : List ℕ) → summaryOf text .configs ≤ 8
+unfolding summaryOf fileConfigs
+few-configs text = configs-few _ _

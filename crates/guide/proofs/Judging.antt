@@ -1,0 +1,114 @@
+-- The judgement of step 2 passes exactly where the values match, for all values. Assumes nothing.
+use mathlib.Core.Path.{_≡_, refl, ap}
+use mathlib.Core.Logic.{_⊎_, inl, inr}
+use mathlib.Core.Bool.{Bool, true, false, cond, false≢true}
+use Prim.Native.Nat.{ℕ, _+_, _/_, _≤_, _<_}
+use native.Mathlib.Omega.{arith}
+use lib.Dec.{eqb, ltb}
+use borrow.Author.Tests.{ltb-true, ltb-false, lt-ltb, le-ltb, eqb-true, eq-eqb, ne-eqb}
+use Rattle.counts.specs.declared.Kind.{Kind}
+use Rattle.counts.specs.declared.Kind.the-variants.{Legacy, Production}
+use Rattle.counts.specs.declared.KindFound.{KindFound}
+use Rattle.counts.specs.declared.KindFound.the-variants.{Is, Unknown}
+use Rattle.line.proofs.Basics.{split, and-true}
+use Rattle.image.specs.declared.Summary.{Summary}
+use Rattle.guide.specs.declared.Verdict.{Verdict}
+use Rattle.guide.specs.declared.Verdict.the-variants.{Counter, Identity, Flag, Old, OtherKind, Places}
+use Rattle.guide.specs.declared.Fit.{Fit}
+use Rattle.guide.specs.declared.Fit.the-variants.{Matched, Fails}
+use Rattle.guide.specs.Judged.{wantedOf, sameKind, fitKind, fitOf}
+use Rattle.guide.specs.Matched.{Fits}
+use Rattle.guide.specs.Statements.{JudgedExactly}
+
+-- the kind that counter and flag want, as a relation
+abbrev Wants : Kind → ℕ → ℕ → Type 0
+Wants kind counter flag =
+    ((kind ≡ Legacy) × (flag ≡ 0) × (counter < 28)) ⊎ ((kind ≡ Production) × ((flag ≡ 0xFFFE0001) ⊎ (counter ≡ 28)))
+
+wants-is : {kind : Kind} (counter flag : ℕ) → Wants kind counter flag → wantedOf counter flag ≡ Is kind
+unfolding wantedOf
+wants-is counter flag (inl (e, f, h)) = rw (e, f, lt-ltb counter 28 h)
+wants-is counter flag (inr (e, inl f)) = rw (e, f)
+wants-is counter flag (inr (e, inr f)) =
+    split (eqb flag 0) (λ g. rw (e, f, g, ne-eqb flag 0xFFFE0001 (λ x. omega (arith, eqb-true flag 0 g))))
+    (λ g. split (eqb flag 0xFFFE0001) (λ h. rw (e, f, g, h)) (λ h. rw (e, f, g, h)))
+
+none-wanted : {A : Type 0} (kind : Kind) → Unknown ≡ Is kind → A
+none-wanted kind e = let z : _≡_ {A = ℕ} 0 1 = cc in absurd (let y : ⊥ = omega arith in y)
+
+is-wants : (kind : Kind) (counter flag : ℕ) → wantedOf counter flag ≡ Is kind → Wants kind counter flag
+unfolding wantedOf
+is-wants kind counter flag e =
+    split (cond (eqb flag 0) (ltb counter 28) false)
+    (λ g. let p = and-true (eqb flag 0) (ltb counter 28) g in inl (cc (simp g at e), eqb-true flag 0 (p .0), ltb-true counter 28 (p .1)))
+    (λ g. split (eqb flag 0xFFFE0001) (λ h. inr (cc (simp (g, h) at e), inl (eqb-true flag 0xFFFE0001 h)))
+    (λ h. split (eqb counter 28) (λ j. inr (cc (simp (g, h, j) at e), inr (eqb-true counter 28 j)))
+    (λ j. none-wanted kind (simp (g, h, j) at e))))
+
+-- ---- a test that the judgement has passed
+
+fails : {A : Type 0} (v : Verdict) → Fails v ≡ Matched → A
+fails v e = let z : _≡_ {A = ℕ} 0 1 = cc in absurd (let y : ⊥ = omega arith in y)
+
+must : (test : Bool) (x : Fit) (v : Verdict) → cond test x (Fails v) ≡ Matched → (test ≡ true) × (x ≡ Matched)
+must true x v e = (refl, e)
+must false x v e = fails v e
+
+must-not : (test : Bool) (x : Fit) (v : Verdict) → cond test (Fails v) x ≡ Matched → (test ≡ false) × (x ≡ Matched)
+must-not true x v e = fails v e
+must-not false x v e = (refl, e)
+
+same-kind : (kind : Kind) → sameKind kind kind ≡ true
+unfolding sameKind
+same-kind Legacy = refl
+same-kind Production = refl
+
+kind-same : (kind wanted : Kind) → sameKind kind wanted ≡ true → wanted ≡ kind
+unfolding sameKind
+kind-same Legacy Legacy e = refl
+kind-same Legacy Production e = absurd (false≢true e)
+kind-same Production Legacy e = absurd (false≢true e)
+kind-same Production Production e = refl
+
+module _ (file : Summary) (counter identity flag revision : ℕ) where
+  passing : Fits file counter identity flag revision → fitOf (file .kind) (file .identity) (file .configs) 0 counter identity flag revision ≡ Matched
+  unfolding fitOf fitKind
+  passing f =
+      rw (
+        le-ltb 28 counter (f .counted),
+        eq-eqb identity (file .identity) (f .same),
+        wants-is counter flag (f .kind),
+        le-ltb (revision / 16777216) 6 (f .young),
+        same-kind (file .kind),
+        le-ltb counter (file .configs + 0) (omega (arith, f .places)),
+      )
+
+  abbrev Known : KindFound → Type 0
+  Known x = (6 ≤ revision / 16777216) × (x ≡ Is (file .kind)) × (file .configs ≤ counter)
+
+  kind-known : (x : KindFound) → fitKind (file .kind) (file .configs) 0 counter revision x ≡ Matched → Known x
+  unfolding fitKind
+  kind-known Unknown e = fails Flag e
+  kind-known (Is wanted) e =
+      let p1 = must-not (ltb (revision / 16777216) 6) _ Old e in
+      let p2 = must (sameKind (file .kind) wanted) _ OtherKind (p1 .1) in
+      let p3 = must-not (ltb counter (file .configs + 0)) Matched Places (p2 .1) in
+      let h = ltb-false counter (file .configs + 0) (p3 .0) in
+      (ltb-false (revision / 16777216) 6 (p1 .0), ap Is (kind-same (file .kind) wanted (p2 .0)), omega arith)
+
+  matching : fitOf (file .kind) (file .identity) (file .configs) 0 counter identity flag revision ≡ Matched → Fits file counter identity flag revision
+  unfolding fitOf
+  matching e =
+      let p1 = must-not (ltb 28 counter) _ Counter e in
+      let p2 = must (eqb identity (file .identity)) _ Identity (p1 .1) in
+      let k = kind-known (wantedOf counter flag) (p2 .1) in
+      record {
+        counted = ltb-false 28 counter (p1 .0);
+        same = eqb-true identity (file .identity) (p2 .0);
+        young = k .0;
+        kind = is-wants (file .kind) counter flag (k .1);
+        places = k .2;
+      }
+
+  pub judged-exactly : JudgedExactly file counter identity flag revision
+  judged-exactly = record { passes = passing; matches = matching }

@@ -1,0 +1,58 @@
+-- At each request a plan stays where it is, or a reply in form comes and leads on. What staying means is left open: no write line
+-- was put out, or the verdict is not DONE. Assumes nothing.
+use mathlib.Core.Path.{_≡_, refl}
+use mathlib.Core.Logic.{_⊎_, inl, inr, ⊎-elim}
+use mathlib.Core.Bool.{false}
+use mathlib.Core.List.{List, [], _∷_}
+use Prim.Native.Nat.{ℕ, _≤_}
+use native.Mathlib.Omega.{arith}
+use lib.Dec.{eqb, ltb}
+use lib.ListN.{length}
+use Rattle.line.proofs.Basics.{split}
+use Rattle.bus.specs.declared.Request.{Request}
+use Rattle.bus.specs.declared.Form.{Form}
+use Rattle.bus.specs.declared.Form.the-variants.{Unanswered, Misshapen, Miscoded, Good}
+use Rattle.bus.specs.Form.{doneForm, formOf}
+use Rattle.guide.specs.declared.Verdict.{Verdict}
+use Rattle.guide.specs.declared.Verdict.the-variants.{Nack, Shape, Pec}
+use Rattle.guide.specs.Numbers.{numberOf}
+use Rattle.guide.specs.Plan.{Reply, Mark, Plan, ask, done}
+use Rattle.guide.specs.Guide.{hear, put}
+use Rattle.guide.proofs.Through.{Came, came, asked}
+
+-- what holds where a plan stays, at a request of this mark
+pub record Keeps (m : Mark) (S : Plan → List Reply → Type 0) : Type 0 where
+  pub waits : (q : Request) (next : Reply → Plan) → S (ask (asked m q) next) []
+  pub back : (q : Request) (next : Reply → Plan) (r : Reply) (rs : List Reply) → S (next r) rs → S (ask (asked m q) next) (r ∷ rs)
+  pub ends : (v : Verdict) (rs : List Reply) → 1 ≤ numberOf v → S (done v) rs
+
+-- a write is answered with no word
+wrote-none : (q : Request) (w kind : ℕ) (bs : List ℕ) → q .reads ≡ false → formOf q kind bs ≡ Good w → w ≡ 0
+unfolding formOf doneForm
+wrote-none q w kind bs e f =
+    split (eqb kind 0) (λ a. cc (simp a at f))
+    (λ a. split (ltb 1 kind) (λ b. cc (simp (a, b) at f))
+    (λ b. split (eqb (length bs) 0) (λ c. cc (simp (a, b, c, e) at f)) (λ c. cc (simp (a, b, c, e) at f))))
+
+came-none : {q : Request} {w : ℕ} {rs rest : List Reply} → q .reads ≡ false → Came q w rs rest → Came q 0 rs rest
+came-none {q} {w} e (came r rest g) = came r rest (rw (wrote-none q w (r .kind) (r .bytes) e g) at g)
+
+module _ {C : Type 0} {m : Mark} {S : Plan → List Reply → Type 0} (k : Keeps m S) where
+  pub bind : (q : Request) (next : ℕ → Plan) (rs : List Reply) → ((w : ℕ) (rest : List Reply) → Came q w rs rest → S (next w) rest ⊎ C)
+      → S (put m q next) rs ⊎ C
+  unfolding hear
+  bind q next [] f = inl (k .waits q _)
+  bind q next (r ∷ rs) f = go (formOf q (r .kind) (r .bytes)) refl
+    where
+      stays : (v : Verdict) → 1 ≤ numberOf v → hear (formOf q (r .kind) (r .bytes)) next ≡ done v → S (put m q next) (r ∷ rs) ⊎ C
+      stays v h e = inl (k .back q _ r rs (rw e (k .ends v rs h)))
+
+      go : (h : Form) → formOf q (r .kind) (r .bytes) ≡ h → S (put m q next) (r ∷ rs) ⊎ C
+      go Unanswered e = stays Nack (omega arith) (rw e)
+      go Misshapen e = stays Shape (omega arith) (rw e)
+      go Miscoded e = stays Pec (omega arith) (rw e)
+      go (Good w) e = ⊎-elim (λ s. inl (k .back q _ r rs (rw e s))) inr (f w rs (came r rs e))
+
+  pub bind-write : (q : Request) (next : Plan) (rs : List Reply) → q .reads ≡ false
+      → ((rest : List Reply) → Came q 0 rs rest → S next rest ⊎ C) → S (put m q (λ _. next)) rs ⊎ C
+  bind-write q next rs e f = bind q (λ _. next) rs (λ w rest c. f rest (came-none e c))

@@ -1,0 +1,128 @@
+-- The guide: the requests and what each reply leads to, steps 1 to 6 of document 01 ("The session") in its order, each before
+-- the steps that follow it. From the file, the settings and the replies alone. Assumes nothing.
+use mathlib.Core.List.{List, [], _∷_}
+use mathlib.Core.Bool.{Bool, cond}
+use Prim.Native.Nat.{ℕ, zero, suc, _+_}
+use lib.Dec.{eqb}
+use lib.ListN.{getD, take, drop}
+use Rattle.counts.specs.Counts.{configNumber, configId}
+use Rattle.line.specs.declared.Line.{Line}
+use Rattle.line.specs.Lines.{linesOf}
+use Rattle.line.specs.Digits.{digitVal, valuesOf}
+use Rattle.line.specs.Reading.{lineOf}
+use Rattle.image.specs.declared.Summary.{Summary}
+use Rattle.image.specs.Says.{summaryOf}
+use Rattle.bus.specs.declared.Request.{Request}
+use Rattle.bus.specs.declared.Form.{Form}
+use Rattle.bus.specs.declared.Form.the-variants.{Unanswered, Misshapen, Miscoded, Good}
+use Rattle.bus.specs.Bus.{framed, writeOf, wordBytes, pointTo, readData, readBlock}
+use Rattle.bus.specs.Form.{formOf}
+use Rattle.guide.specs.declared.Verdict.the-variants.{Done, Nack, Shape, Pec, Program, Banks, Mismatch}
+use Rattle.guide.specs.declared.Fit.{Fit}
+use Rattle.guide.specs.declared.Fit.the-variants.{Matched, Fails}
+use Rattle.guide.specs.declared.Polled.{Polled}
+use Rattle.guide.specs.declared.Polled.the-variants.{Busy, Passed, Failed}
+use Rattle.guide.specs.Plan.{Mark, other, fileLine, Plan, ask, done}
+use Rattle.guide.specs.Judged.{cleared, fitOf, polledOf, banksRight}
+
+-- 20 to 22 are tried at each reply, in order; one in form goes on with the word read
+unfoldable pub hear : Form → (ℕ → Plan) → Plan
+hear Unanswered next = done Nack
+hear Misshapen next = done Shape
+hear Miscoded next = done Pec
+hear (Good w) next = next w
+
+abbrev pub put : Mark → Request → (ℕ → Plan) → Plan
+put m q next = ask (record { mark = m; request = q }) (λ r. hear (formOf q (r .kind) (r .bytes)) next)
+
+abbrev pub write : Request → Plan → Plan
+write q next = put other q (λ _. next)
+
+abbrev pub read : Request → (ℕ → Plan) → Plan
+read q next = put other q next
+
+-- step 1: write C7 A2 00; read C5; write C5 with the four bytes read and bit 5 of the first cleared; write E7 02 00
+unfoldable pub step1 : Plan → Plan
+step1 rest =
+    write (pointTo 0xA2 0x00) (read readData λ w. write (writeOf 0xC5 (wordBytes (cleared w))) (write (writeOf 0xE7 (0x02 ∷ 0x00 ∷ [])) rest))
+
+-- step 2: write C7 35 00; read C5: the counter. Read AD: identity. Write C7 87 BD; read C5: the flag. Read AE: revision
+unfoldable pub gate : Fit → Plan → Plan
+gate Matched rest = rest
+gate (Fails v) rest = done v
+
+unfoldable pub step2 : Summary → Plan → Plan
+step2 file rest =
+    write (pointTo 0x35 0x00) (read readData λ counter.
+    read (readBlock 0xAD) λ identity.
+    write (pointTo 0x87 0xBD) (read readData λ flag.
+    read (readBlock 0xAE) λ revision.
+    gate (fitOf (file .kind) (file .identity) (file .configs) 0 counter identity flag revision) rest))
+
+-- the data bytes that a line has
+unfoldable pub lineData : Line → List ℕ
+lineData l = take (l .count) (l .d0 ∷ l .d1 ∷ l .d2 ∷ l .d3 ∷ [])
+
+-- a write line as it stands; the PEC sent is the line's last byte
+unfoldable pub lineRequest : Line → Request
+lineRequest l = framed (0xC0 ∷ l .command ∷ lineData l) (l .crc)
+
+-- step 3: the write lines 5 to n, as they stand
+unfoldable pub lines : ℕ → List Line → Plan → Plan
+lines i [] rest = rest
+lines i (l ∷ ls) rest = put (fileLine i) (lineRequest l) λ _. lines (i + 1) ls rest
+
+abbrev pub step3 : List Line → Plan → Plan
+step3 ls rest = lines 5 ls rest
+
+-- step 4: write C7 7E 00; read C5 until bit 0 is 1 or the poll limit is used
+unfoldable pub polled : Polled → Plan → Plan → Plan
+polled Busy again rest = again
+polled Passed again rest = rest
+polled Failed again rest = done Program
+
+unfoldable pub polls : ℕ → Plan → Plan
+polls zero rest = done Program
+polls (suc left) rest = read readData λ status. polled (polledOf status) (polls left rest) rest
+
+unfoldable pub step4 : ℕ → Plan → Plan
+step4 limit rest = write (pointTo 0x7E 0x00) (polls limit rest)
+
+-- step 5: write C7 7F 00; read C5: banks
+unfoldable pub step5 : ℕ → Plan → Plan
+step5 k rest = write (pointTo 0x7F 0x00) (read readData λ banks. cond (banksRight k banks) rest (done Banks))
+
+-- step 6, for N from 0: write RESTORE_CFG with one data byte, the identifier; write C7 94 00; read C5
+unfoldable pub idIn : Summary → ℕ → ℕ
+idIn file N = getD (file .ids) N (configId 0) .0
+
+unfoldable pub crcIn : Summary → ℕ → ℕ
+crcIn file N = getD (file .crcs) N 0
+
+unfoldable pub verify : Summary → ℕ → ℕ → ℕ → Plan
+verify file restore zero N = done Done
+verify file restore (suc left) N =
+    write (writeOf restore (idIn file N ∷ [])) (write (pointTo 0x94 0x00) (read readData λ crc.
+    cond (eqb crc (crcIn file N)) (verify file restore left (N + 1)) (done (Mismatch (configNumber N)))))
+
+abbrev pub step6 : Summary → ℕ → Plan
+step6 file restore = verify file restore (file .configs) 0
+
+-- the whole, from what a file says, its write lines, and the settings: whether step 1 is wanted, the poll limit, RESTORE_CFG
+unfoldable pub guide : Summary → List Line → Bool → ℕ → ℕ → Plan
+guide file ls wanted limit restore =
+    let rest = step2 file (step3 ls (step4 limit (step5 (file .configs) (step6 file restore)))) in
+    cond wanted (step1 rest) rest
+
+-- ---- of a text
+
+unfoldable pub linesAs : List (List ℕ) → List Line
+linesAs [] = []
+linesAs (t ∷ ts) = lineOf (valuesOf digitVal t) ∷ linesAs ts
+
+-- the write lines, 5 to n
+unfoldable pub writeLinesOf : List ℕ → List Line
+writeLinesOf text = linesAs (drop 4 (linesOf text))
+
+unfoldable pub guideFor : List ℕ → Bool → ℕ → ℕ → Plan
+guideFor text wanted limit restore = guide (summaryOf text) (writeLinesOf text) wanted limit restore

@@ -1,0 +1,6 @@
+pub mod Numbers
+pub mod Judged
+pub mod Plan
+pub mod Guide
+pub mod Matched
+pub mod Statements

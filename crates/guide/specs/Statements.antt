@@ -1,0 +1,171 @@
+-- What is proved of the guide's list alone, for every accepted text, settings and replies (document 01, demand 3). The proofs
+-- stand in proofs/. Assumes nothing.
+use mathlib.Core.Path.{_≡_}
+use mathlib.Core.Logic.{_⊎_}
+use mathlib.Core.Bool.{Bool, true, false, cond}
+use mathlib.Core.List.{List, [], _∷_, _++_, List·Memᴰ}
+use Prim.Native.Nat.{ℕ, zero, suc, _+_, _-_, _*_, _%_, _≤_, _<_}
+use lib.Dec.{eqb}
+use lib.ListN.{length, getD, drop}
+use Rattle.counts.specs.Counts.{configNumber}
+use Rattle.line.specs.declared.Line.{Line}
+use Rattle.line.specs.Lines.{linesOf}
+use Rattle.line.specs.Digits.{digitVal, valuesOf}
+use Rattle.image.specs.declared.Summary.{Summary}
+use Rattle.image.specs.Says.{summaryOf}
+use Rattle.bus.specs.declared.Form.the-variants.{Good}
+use Rattle.bus.specs.Bus.{eight, writeOf, pointTo, readData}
+use Rattle.bus.specs.Form.{formOf}
+use Rattle.guide.specs.declared.Verdict.{Verdict}
+use Rattle.guide.specs.declared.Verdict.the-variants.{Done}
+use Rattle.guide.specs.declared.Fit.the-variants as fit
+use Rattle.guide.specs.Numbers.{numberOf, configOf}
+use Rattle.guide.specs.Judged.{fitOf, bank, bankIn}
+use Rattle.guide.specs.Plan.{Reply, Mark, other, fileLine, Asked, Plan, ended, requests, verdict}
+use Rattle.guide.specs.Guide.{lineRequest, idIn, crcIn, writeLinesOf, guideFor}
+use Rattle.guide.specs.Matched.{Exchange, wrote, got, Answered, opening, Fits, Matched}
+
+-- ---- the judgement passes exactly where the values match
+
+pub record JudgedExactly (file : Summary) (counter identity flag revision : ℕ) : Type 0 where
+  pub passes : Fits file counter identity flag revision → fitOf (file .kind) (file .identity) (file .configs) 0 counter identity flag revision ≡ fit.Matched
+  pub matches : fitOf (file .kind) (file .identity) (file .configs) 0 counter identity flag revision ≡ fit.Matched → Fits file counter identity flag revision
+
+-- ---- the write lines among some requests, and the burn, which is line n
+
+unfoldable pub isLine : Mark → Bool
+isLine other = false
+isLine (fileLine i) = true
+
+unfoldable pub linesIn : List Asked → List Asked
+linesIn [] = []
+linesIn (q ∷ qs) = cond (isLine (q .mark)) (q ∷ linesIn qs) (linesIn qs)
+
+abbrev pub lineAsked : ℕ → Line → Asked
+lineAsked i l = record { mark = fileLine i; request = lineRequest l }
+
+unfoldable pub isBurnMark : ℕ → Mark → Bool
+isBurnMark n other = false
+isBurnMark n (fileLine i) = eqb i n
+
+unfoldable pub burnsIn : ℕ → List Asked → ℕ
+burnsIn n [] = 0
+burnsIn n (q ∷ qs) = cond (isBurnMark n (q .mark)) (suc (burnsIn n qs)) (burnsIn n qs)
+
+-- the requests before the burn, all of them if it is not there
+unfoldable pub beforeBurn : ℕ → List Asked → List Asked
+beforeBurn n [] = []
+beforeBurn n (q ∷ qs) = cond (isBurnMark n (q .mark)) [] (q ∷ beforeBurn n qs)
+
+-- each of these requests has its reply, in form
+pub data InForm : List Asked → List Reply → Type 0 where
+  none : (rs : List Reply) → InForm [] rs
+  more : (q : Asked) (qs : List Asked) (r : Reply) (rs : List Reply) (w : ℕ) → formOf (q .request) (r .kind) (r .bytes) ≡ Good w → InForm qs rs
+      → InForm (q ∷ qs) (r ∷ rs)
+
+-- the requests of steps 1 and 2
+unfoldable pub openingCount : Bool → ℕ
+openingCount true = 10
+openingCount false = 6
+
+-- how often the burn's bytes, C0 E7 08 00 DA, stand among some requests, whatever their marks
+unfoldable pub sameBytes : List ℕ → List ℕ → Bool
+sameBytes [] [] = true
+sameBytes [] (y ∷ ys) = false
+sameBytes (x ∷ xs) [] = false
+sameBytes (x ∷ xs) (y ∷ ys) = cond (eqb x y) (sameBytes xs ys) false
+
+abbrev pub burnBytes : List ℕ
+burnBytes = 0xC0 ∷ 0xE7 ∷ 0x08 ∷ 0x00 ∷ 0xDA ∷ []
+
+unfoldable pub spellings : List Asked → ℕ
+spellings [] = 0
+spellings (q ∷ qs) = cond (sameBytes (q .request .bytes) (eight burnBytes)) (suc (spellings qs)) (spellings qs)
+
+-- ---- the exchanges of steps 3, 4 and 6
+
+unfoldable pub heard3 : List Line → List Exchange
+heard3 [] = []
+heard3 (l ∷ ls) = wrote (lineRequest l) ∷ heard3 ls
+
+-- the status reads, one after the other
+unfoldable pub heard4 : List ℕ → List Exchange
+heard4 [] = []
+heard4 (w ∷ ws) = got readData w ∷ heard4 ws
+
+-- for each N the request before carries its identifier, and the CRC read is the file's
+unfoldable pub heard6 : Summary → ℕ → ℕ → ℕ → List Exchange
+heard6 file restore zero N = []
+heard6 file restore (suc left) N =
+    wrote (writeOf restore (idIn file N ∷ [])) ∷ wrote (pointTo 0x94 0x00) ∷ got readData (crcIn file N) ∷ heard6 file restore left (N + 1)
+
+module _ (text : List ℕ) (wanted : Bool) (limit restore : ℕ) (rs : List Reply) where
+  abbrev pub file : Summary
+  file = summaryOf text
+
+  abbrev pub list : List Asked
+  list = requests (guideFor text wanted limit restore) rs
+
+  -- no write line unless they matched; if they matched, the first write line is next after steps 1 and 2
+  pub record Gate : Type 0 where
+    pub unless : Matched file wanted rs ⊎ (linesIn list ≡ [])
+    pub next : Matched file wanted rs
+        → (before : List Asked) × (l : Line) × (ls : List Line) × (rest : List Asked)
+        × (writeLinesOf text ≡ l ∷ ls) × (list ≡ before ++ (lineAsked 5 l ∷ rest)) × (length before ≡ openingCount wanted)
+
+  -- the burn once if they matched and every earlier request was answered in form, otherwise never
+  pub record Burns : Type 0 where
+    pub once : Matched file wanted rs → InForm (beforeBurn (file .lines) list) rs → burnsIn (file .lines) list ≡ 1
+    pub never : (Matched file wanted rs × InForm (beforeBurn (file .lines) list) rs → ⊥) → burnsIn (file .lines) list ≡ 0
+
+  -- at most lines + poll limit + 3 x configurations + 9
+  unfoldable pub Bounded : Type 0
+  Bounded = length list ≤ file .lines + limit + 3 * file .configs + 9
+
+  -- a request marked line i has exactly the bytes of line i of the text, from its address to its CRC
+  pub record MarksTell : Type 0 where
+    pub tells : (q : Asked) (i : ℕ) → List·Memᴰ q list → q .mark ≡ fileLine i
+        → (5 ≤ i) × (i ≤ file .lines) × (q .request .bytes ≡ eight (drop 2 (valuesOf digitVal (getD (linesOf text) (i - 1) []))))
+
+  -- the burn's bytes are put out exactly as often as the burn is
+  unfoldable pub SpelledOnce : Type 0
+  SpelledOnce = spellings list ≡ burnsIn (file .lines) list
+
+  -- ---- DONE exactly when
+
+  pub record DoneWhen : Type 0 where
+    pub matched : Matched file wanted rs
+    -- the statuses read before the last, the last, and the banks
+    pub busy : List ℕ
+    pub last : ℕ
+    pub banks : ℕ
+    pub answered : Answered
+        (opening wanted (matched .first) (matched .counter) (matched .identity) (matched .flag) (matched .revision)
+        ++ (heard3 (writeLinesOf text)
+        ++ (wrote (pointTo 0x7E 0x00) ∷ (heard4 busy
+        ++ (got readData last ∷ wrote (pointTo 0x7F 0x00) ∷ got readData banks ∷ heard6 file restore (file .configs) 0)))))
+        rs
+    pub polls : length busy < limit
+    pub clear : (i : ℕ) → i < length busy → getD busy i 0 % 2 ≡ 0
+    pub passed : last % 64 ≡ 1
+    pub reported : (b : ℕ) → b < file .configs → bankIn banks (bank b) ≡ 1
+    pub unused : (b : ℕ) → file .configs ≤ b → b < 8 → bankIn banks (bank b) ≡ 0
+
+  pub record DoneExactly : Type 0 where
+    pub done-when : verdict (guideFor text wanted limit restore) rs ≡ ended Done → DoneWhen
+    pub when-done : DoneWhen → verdict (guideFor text wanted limit restore) rs ≡ ended Done
+
+-- ---- of every plan
+
+-- the list for some replies is a beginning of the list for these and more
+unfoldable pub Begins : Plan → List Reply → List Reply → Type 0
+Begins p rs later = (rest : List Asked) × (requests p (rs ++ later) ≡ requests p rs ++ rest)
+
+-- replies after the verdict change nothing
+unfoldable pub Settled : Plan → List Reply → List Reply → Type 0
+Settled p rs later =
+    (v : Verdict) → verdict p rs ≡ ended v → (verdict p (rs ++ later) ≡ ended v) × (requests p (rs ++ later) ≡ requests p rs)
+
+-- N is 0 unless the verdict is 31
+unfoldable pub OnlyMismatch : Verdict → Type 0
+OnlyMismatch v = (numberOf v ≡ 31 → ⊥) → configOf v ≡ configNumber 0

@@ -1,0 +1,35 @@
+// The guide's words: verdicts, and its decisions as functions on numbers. The guide itself stands in specs/.
+use counts::ConfigNumber;
+use image::Refusal;
+
+// How a session can end: DONE, a refused beginning (14, or the file's refusal), 20 to 31.
+pub enum Verdict {
+    Done,
+    Setting,
+    File(Refusal),
+    Nack,
+    Shape,
+    Pec,
+    Counter,
+    Identity,
+    Flag,
+    Old,
+    OtherKind,
+    Places,
+    Program,
+    Banks,
+    Mismatch(ConfigNumber),
+}
+
+// 23 to 28, or none of them.
+pub enum Fit {
+    Matched,
+    Fails(Verdict),
+}
+
+// What a status read in step 4 comes to: bit 0 is clear, or it is 1 and the others of 5..0 are right, or wrong.
+pub enum Polled {
+    Busy,
+    Passed,
+    Failed,
+}

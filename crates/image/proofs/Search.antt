@@ -1,0 +1,77 @@
+-- A search among numbers or bytes finds exactly what is there. Assumes nothing.
+use mathlib.Core.Path.{_≡_, refl, sym}
+use mathlib.Core.Bool.{Bool, true, false, cond, true≢false, false≢true}
+use mathlib.Core.List.{List, [], _∷_, List·Memᴰ, List·Memᴰ·head, List·Memᴰ·tail}
+use Prim.Native.Nat.{ℕ, zero, suc, _+_, _<_}
+use native.Mathlib.Omega.{arith}
+use native.Mathlib.Numerals.{add-one}
+use lib.Dec.{eqb, ltb}
+use borrow.Author.Tests.{ltb-true, ltb-false, eqb-true, eq-eqb}
+use Rattle.line.proofs.Basics.{split}
+use Rattle.image.specs.Tests.{someBelow, isIn}
+
+pub or-false : (a b : Bool) → cond a true b ≡ false → (a ≡ false) × (b ≡ false)
+or-false true b e = absurd (true≢false e)
+or-false false b e = (refl, e)
+
+pub or-none : (a : Bool) → a ≡ cond a true false
+or-none true = refl
+or-none false = refl
+
+-- ---- numbers under k
+
+module _ (test : ℕ → Bool) where
+  pub none-below : (k : ℕ) → someBelow k test ≡ false → (n : ℕ) → n < k → test n ≡ false
+  unfolding someBelow
+  none-below zero e n h = absurd (let y : ⊥ = omega arith in y)
+  none-below (suc k) e n h =
+      let f = or-false (someBelow k test) (test k) e in
+      split (ltb n k) (λ t. none-below k (f .0) n (ltb-true n k t))
+      (λ t. let q : n ≡ k = omega (arith, ltb-false n k t) in rw q (f .1))
+
+  pub below-none : (k : ℕ) → ((n : ℕ) → n < k → test n ≡ false) → someBelow k test ≡ false
+  unfolding someBelow
+  below-none zero f = refl
+  below-none (suc k) f = rw (below-none k (λ n h. f n (omega arith)), f k (omega arith))
+
+  -- one number more, for which it is false
+  pub below-on : (k : ℕ) → someBelow k test ≡ false → test k ≡ false → someBelow (k + 1) test ≡ false
+  unfolding someBelow
+  below-on k p q = rw (add-one, p) q
+
+  -- a number that is there is found
+  pub below-found : (i k : ℕ) → i < k → test i ≡ true → someBelow k test ≡ true
+  unfolding someBelow
+  below-found i zero h p = absurd (let z : ⊥ = omega arith in z)
+  below-found i (suc k) h p =
+      split (ltb i k) (λ e. rw (below-found i k (ltb-true i k e) p))
+      (λ e. let q : i ≡ k = omega (arith, ltb-false i k e) in split (someBelow k test) (λ f. rw f) (λ f. rw (f, ← q, p)))
+
+  -- from the first number on
+  pub below-first : (k : ℕ) → someBelow (suc k) test ≡ cond (test zero) true (someBelow k (λ i. test (suc i)))
+  unfolding someBelow
+  below-first zero = or-none (test zero)
+  below-first (suc k) = rw (below-first k) (or-or (test zero) (someBelow k (λ i. test (suc i))) (test (suc k)))
+    where
+      or-or : (a b c : Bool) → cond (cond a true b) true c ≡ cond a true (cond b true c)
+      or-or true b c = refl
+      or-or false b c = refl
+
+-- tests that agree under k
+pub below-same : (k : ℕ) (test other : ℕ → Bool) → ((i : ℕ) → i < k → test i ≡ other i) → someBelow k test ≡ someBelow k other
+unfolding someBelow
+below-same zero test other f = refl
+below-same (suc k) test other f = rw (below-same k test other (λ i h. f i (omega arith)), f k (omega arith))
+
+-- ---- bytes of a list
+
+pub in-list : (b : ℕ) (xs : List ℕ) → isIn b xs ≡ true → List·Memᴰ b xs
+unfolding isIn
+in-list b [] e = absurd (false≢true e)
+in-list b (x ∷ xs) e =
+    split (eqb x b) (λ h. List·Memᴰ·head (sym (eqb-true x b h))) (λ h. List·Memᴰ·tail (in-list b xs (simp h at e)))
+
+pub list-in : {b : ℕ} {xs : List ℕ} → List·Memᴰ b xs → isIn b xs ≡ true
+unfolding isIn
+list-in {b} (List·Memᴰ·head {x} {xs} e) = rw (eq-eqb x b (sym e))
+list-in {b} (List·Memᴰ·tail {x} {xs} m) = split (eqb x b) (λ h. rw h) (λ h. rw h (list-in m))

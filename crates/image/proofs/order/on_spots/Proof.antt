@@ -1,0 +1,68 @@
+-- The same tests in the same order. Assumes nothing.
+use mathlib.Core.Path.{_≡_, ap, _∙_}
+use mathlib.Core.Bool.{true, false}
+use Rattle.counts.specs.Counts.{lineNumber}
+use Rattle.line.specs.Lines.{placeOf}
+use Rattle.line.proofs.Basics.{via}
+use Rattle.image.specs.Says.{identityOf}
+use Rattle.image.specs.Walk.{lineAt}
+use Rattle.image.specs.Cascade.{onSpots}
+use Rattle.image.proofs.Places.{line-one, place-from}
+use borrow.Author.Needs.{needs}
+use Rattle.image.proofs.order.on_spots.Statement.{statement}
+use Rattle.image.proofs.order.on_spots.Tie as tie
+
+same-in-requires : tie.Need-same-in-requires
+same-in-requires c κs = search needs
+
+refused-by-requires : tie.Need-refused-by-requires
+refused-by-requires c κs = search needs
+
+refused-by-requires-2 : tie.Need-refused-by-requires-2
+refused-by-requires-2 c κs = search needs
+
+line-at-requires : tie.Need-line-at-requires
+line-at-requires c κs = search needs
+
+identity-of-requires : tie.Need-identity-of-requires
+identity-of-requires c κs = search needs
+
+skip-requires : tie.Need-skip-requires
+skip-requires c κs = search needs
+
+returns : tie.Need-returns
+unfolding onSpots
+returns c =
+    let amiss : c .before .before .before .before .before .before .args .spots .amiss ≡ true = c .before .if1 .taken in
+    rw amiss (c .refused-by .ensures)
+
+returns-2 : tie.Need-returns-2
+unfolding onSpots
+returns-2 c =
+    let amiss : c .before .before .before .before .before .before .before .args .spots .amiss ≡ false = c .before .before .if1 .left in
+    rw (amiss, via (c .before .before .before .same-in .ensures) (c .before .if2 .taken)) (c .refused-by2 .ensures)
+
+returns-3 : tie.Need-returns-3
+unfolding onSpots
+returns-3 c =
+    let a = c .before .before .before .before .before .before .before .before .before .args in
+    let s = a .s .now in
+    let amiss : a .spots .amiss ≡ false = c .before .before .before .before .if1 .left in
+    let identity : c .before .identity-of .result ≡ identityOf (lineAt (lineNumber 1) s) =
+    c .before .identity-of .ensures ∙ ap identityOf (c .before .before .line-at .ensures ∙ line-one s) in
+    let first : c .skip .result ≡ placeOf 4 s = c .skip .ensures ∙ place-from 4 s in
+    rw (amiss, via (c .before .before .before .before .before .same-in .ensures) (c .before .before .before .if2 .left)) (cc)
+
+pub on-spots-spec : {M : Type 1} → statement M
+on-spots-spec =
+    tie.close
+    (tie.spec
+    same-in-requires
+    refused-by-requires
+    refused-by-requires-2
+    line-at-requires
+    identity-of-requires
+    skip-requires
+    returns
+    returns-2
+    returns-3)

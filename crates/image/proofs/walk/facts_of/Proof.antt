@@ -1,0 +1,96 @@
+-- The answer from the start is the answer from here with the facts so far. Assumes nothing.
+use mathlib.Core.Path.{_≡_, refl, sym, _∙_}
+use Prim.Native.Nat.{_+_, _-_, _≤_}
+use native.Mathlib.Omega.{arith}
+use lib.ListN.{length, drop}
+use Rattle.line.specs.Lines.{linesOf}
+use Rattle.line.proofs.Basics.{via}
+use Rattle.line.proofs.Right.{read-is}
+use Rattle.counts.specs.Counts.{lineNumber}
+use Rattle.image.specs.Walk.{factsFrom, start}
+use Rattle.image.proofs.Steps.{facts-end, facts-stop, facts-took, with-lines}
+use borrow.Author.Needs.{needs}
+use Rattle.image.proofs.walk.facts_of.Statement.{statement}
+use Rattle.image.proofs.walk.facts_of.Tie as tie
+
+abbrev Inv-loop : tie.InvT-loop
+Inv-loop digits table s facts₀ at₀ facts at = (factsFrom start (linesOf s) ≡ factsFrom facts (linesOf (drop at s))) × (facts .lines ≤ at) × (at ≤ length s)
+
+abbrev μ-loop : tie.MeasureT-loop
+μ-loop digits table s facts₀ at₀ facts at = length s - at
+
+loop-holds : tie.Need-loop-holds Inv-loop μ-loop
+unfolding start
+loop-holds c = (refl, omega arith, omega arith)
+
+add-t11 : tie.Need-add-t11 Inv-loop μ-loop
+add-t11 c = search needs
+
+read-at-requires : tie.Need-read-at-requires Inv-loop μ-loop
+read-at-requires c κs = search needs
+
+enum-told : tie.Need-enum-told Inv-loop μ-loop
+enum-told c = search needs
+
+returns : tie.Need-returns Inv-loop μ-loop
+returns c =
+    let a = c .before .before .before .before .before .before .args in
+    let at = c .before .before .before .before .loop .at in
+    let f = c .before .before .before .before .loop .facts in
+    let read = read-is (c .before .before .before .before .before .before .pre .0 .0) (c .before .before .before .before .before .before .pre .0 .1) (lineNumber (f .lines + 1)) at (a .s .now) (c .before .before .read-at .ensures) in
+    sym (c .before .before .before .before .loop .inv .0 ∙ facts-end f (a .s .now) at (via read (c .enum-told .given .1)))
+
+enum-known-step : tie.Need-enum-known-step Inv-loop μ-loop
+enum-known-step c = search needs
+
+facts-with-requires : tie.Need-facts-with-requires Inv-loop μ-loop
+facts-with-requires c κs = search needs
+
+loop-less : tie.Need-loop-less Inv-loop μ-loop
+loop-less c =
+    let a = c .before .before .before .before .before .before .before .before .args in
+    let at = c .before .before .before .before .before .before .loop .at in
+    let f = c .before .before .before .before .before .before .loop .facts in
+    let read = read-is (c .before .before .before .before .before .before .before .before .pre .0 .0) (c .before .before .before .before .before .before .before .before .pre .0 .1) (lineNumber (f .lines + 1)) at (a .s .now) (c .before .before .before .before .read-at .ensures) in
+    let took = facts-took f (a .s .now) at _ _ (via read (c .before .before .step .given .1)) in
+    omega (arith, took .1, took .2)
+
+loop-again : tie.Need-loop-again Inv-loop μ-loop
+loop-again c =
+    let a = c .before .before .before .before .before .before .before .before .args in
+    let at = c .before .before .before .before .before .before .loop .at in
+    let f = c .before .before .before .before .before .before .loop .facts in
+    let read = read-is (c .before .before .before .before .before .before .before .before .pre .0 .0) (c .before .before .before .before .before .before .before .before .pre .0 .1) (lineNumber (f .lines + 1)) at (a .s .now) (c .before .before .before .before .read-at .ensures) in
+    let took = facts-took f (a .s .now) at _ _ (via read (c .before .before .step .given .1)) in
+    let l = c .before .before .step .given .0 .0 in
+    rw (c .facts-with .ensures)
+    (c .before .before .before .before .before .before .loop .inv .0 ∙ took .0, omega (arith, with-lines f l, took .1), took .2)
+
+enum-known-step-2 : tie.Need-enum-known-step-2 Inv-loop μ-loop
+enum-known-step-2 c = search needs
+
+returns-2 : tie.Need-returns-2 Inv-loop μ-loop
+returns-2 c =
+    let a = c .before .before .before .before .before .before .before .args in
+    let at = c .before .before .before .before .before .loop .at in
+    let f = c .before .before .before .before .before .loop .facts in
+    let read = read-is (c .before .before .before .before .before .before .before .pre .0 .0) (c .before .before .before .before .before .before .before .pre .0 .1) (lineNumber (f .lines + 1)) at (a .s .now) (c .before .before .before .read-at .ensures) in
+    sym (c .before .before .before .before .before .loop .inv .0 ∙ facts-stop f (a .s .now) at _ (via read (c .before .step2 .given .1)))
+
+pub facts-of-spec : {M : Type 1} → statement M
+facts-of-spec =
+    tie.close
+    (tie.spec
+    Inv-loop
+    μ-loop
+    loop-holds
+    add-t11
+    read-at-requires
+    enum-told
+    returns
+    enum-known-step
+    facts-with-requires
+    loop-less
+    loop-again
+    enum-known-step-2
+    returns-2)

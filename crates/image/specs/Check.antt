@@ -1,0 +1,90 @@
+-- The answer for a whole file: the first fault in a written list of tests, in the order of document 01, "Numbers for a file".
+-- Assumes nothing.
+use Prim.Native.Nat.{ℕ, _+_}
+use mathlib.Core.Bool.{Bool, true, false}
+use mathlib.Core.List.{List, [], _∷_, _++_}
+use Rattle.counts.specs.declared.LineNumber.{LineNumber}
+use Rattle.counts.specs.Counts.{lineNumber}
+use Rattle.line.specs.declared.LineReading.{LineReading}
+use Rattle.line.specs.declared.LineReading.the-variants as reading
+use Rattle.line.specs.Lines.{linesOf}
+use Rattle.line.specs.Reading.{faultNumber, readLine}
+use Rattle.image.specs.declared.Refusal.{Refusal}
+use Rattle.image.specs.declared.Refusal.the-variants.{Size, Line, Count, Revision, Device, Burn, Spot, Beyond, Same}
+use Rattle.image.specs.declared.Answer.{Answer}
+use Rattle.image.specs.declared.Answer.the-variants.{Accepted, Refused}
+use Rattle.image.specs.declared.Checked.{Checked}
+use Rattle.image.specs.Says.{summaryOf, noSummary}
+use Rattle.image.specs.Tests.{tooLong, tooFew, otherRevision, otherDevice, fitsNone, burnAmiss, beyond, otherSpot, sameIds}
+
+-- the document's numbers
+abbrev pub refusalNumber : Refusal → ℕ
+refusalNumber Size = 1
+refusalNumber (Line n fault) = faultNumber fault
+refusalNumber Count = 7
+refusalNumber Revision = 8
+refusalNumber Device = 9
+refusalNumber Burn = 10
+refusalNumber Spot = 11
+refusalNumber Beyond = 12
+refusalNumber Same = 13
+
+-- the line is 0 for 1 and 7 to 13
+abbrev pub refusalLine : Refusal → LineNumber
+refusalLine Size = lineNumber 0
+refusalLine (Line n fault) = n
+refusalLine Count = lineNumber 0
+refusalLine Revision = lineNumber 0
+refusalLine Device = lineNumber 0
+refusalLine Burn = lineNumber 0
+refusalLine Spot = lineNumber 0
+refusalLine Beyond = lineNumber 0
+refusalLine Same = lineNumber 0
+
+-- 0 if accepted
+abbrev pub answerNumber : Answer → ℕ
+answerNumber Accepted = 0
+answerNumber (Refused r) = refusalNumber r
+
+abbrev pub answerLine : Answer → LineNumber
+answerLine Accepted = lineNumber 0
+answerLine (Refused r) = refusalLine r
+
+-- ---- the order
+
+unfoldable pub refusedIf : Bool → Refusal → Answer
+refusedIf true r = Refused r
+refusedIf false r = Accepted
+
+unfoldable pub first : List Answer → Answer
+first [] = Accepted
+first (Accepted ∷ more) = first more
+first (Refused r ∷ more) = Refused r
+
+-- a line's own answer, 2 to 6
+unfoldable pub lineAnswer : LineNumber → LineReading → Answer
+lineAnswer n (reading.Good l) = Accepted
+lineAnswer n (reading.Refused fault) = Refused (Line n fault)
+
+-- those of all lines, the first of which has the number n
+unfoldable pub lineAnswers : ℕ → List (List ℕ) → List Answer
+lineAnswers n [] = []
+lineAnswers n (t ∷ ts) = lineAnswer (lineNumber n) (readLine (lineNumber n) t) ∷ lineAnswers (n + 1) ts
+
+-- 7 for under 13 lines, 8, 9, 7 for n, 10, 12, 11, 13
+unfoldable pub wholeAnswers : List (List ℕ) → List Answer
+wholeAnswers ls =
+    refusedIf (tooFew ls) Count ∷ refusedIf (otherRevision ls) Revision ∷ refusedIf (otherDevice ls) Device
+    ∷ refusedIf (fitsNone ls) Count ∷ refusedIf (burnAmiss ls) Burn ∷ refusedIf (beyond ls) Beyond
+    ∷ refusedIf (otherSpot ls) Spot ∷ refusedIf (sameIds ls) Same ∷ []
+
+-- 1; then the first faulty line, and in it 2 to 6; then the whole file's
+unfoldable pub answerOf : List ℕ → Answer
+answerOf s = first (refusedIf (tooLong s) Size ∷ (lineAnswers 1 (linesOf s) ++ wholeAnswers (linesOf s)))
+
+unfoldable pub checkedAs : List ℕ → Answer → Checked
+checkedAs s Accepted = record { answer = Accepted; summary = summaryOf s }
+checkedAs s (Refused r) = record { answer = Refused r; summary = noSummary }
+
+unfoldable pub checkOf : List ℕ → Checked
+checkOf s = checkedAs s (answerOf s)
