@@ -1,4 +1,4 @@
-/* The entries of libloader.a, the archive that `rt staticlib loader` writes for x86-64 Linux.
+/* The two entries of libloader.a, the archive that `rt staticlib loader` writes for x86-64 Linux.
  *
  * Both are pure: they keep no state, call nothing, allocate nothing, write no memory of the caller's, and may be called from
  * several threads at once. They read exactly the bytes that they are given and return for every content and every length.
@@ -21,6 +21,11 @@ extern "C" {
  * read address and the bytes read before the code. "123456789" gives 0xF4.
  */
 uint8_t tehilgam_pec(const uint8_t *bytes, size_t length);
+
+/* The refusal number of a HEX file, 0 if it is accepted (docs/NUMBERS.md lists the numbers 1 to 13). The text is the whole
+ * file as it stands, of any length; no text at all is 7, a file with too few lines. A call uses about 3 KiB of stack.
+ */
+uint8_t tehilgam_refusal(const uint8_t *text, size_t length);
 
 #ifdef __cplusplus
 }

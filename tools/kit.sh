@@ -45,3 +45,14 @@ link_c() { # OUT SOURCE ARCHIVE
 run_c() { # PROGRAM [WORDS...]
     if [ "$(uname -m)" = x86_64 ]; then "$@"; else run_x86 "$@"; fi
 }
+
+# Builds the second program and its cases where they are missing or older than their sources.
+build_second() {
+    need rustc rustc || return 1
+    mkdir -p target/tests
+    for program in second cases; do
+        if [ ! -x "target/tests/$program" ] || [ -n "$(find tests/second -name '*.rs' -newer "target/tests/$program")" ]; then
+            rustc --edition 2021 -O -o "target/tests/$program" "tests/second/$program.rs" || return 1
+        fi
+    done
+}

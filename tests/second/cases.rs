@@ -3,6 +3,7 @@
 //! - `cases files SEED DIR`: case files, `DIR/0000-LABEL.hex` and on.
 //! - `cases sessions SEED DIR`: inputs of dry runs, `DIR/0000-LABEL.bin` and on.
 //! - `cases example production FILE` or `cases example legacy FILE`: an accepted file.
+//! - `cases accepted production K FILE`: an accepted file of K configurations, for measuring.
 //! - `cases example-session FILE.hex OUT.bin`: a dry run of an accepted file that ends DONE.
 //!
 //! The same seed gives the same cases.
@@ -22,11 +23,12 @@ use std::io;
 use std::path::Path;
 use std::process::ExitCode;
 
-use cases_common::Kind;
+use cases_common::{Draft, Kind, Rng};
 
 const USAGE: &str = "usage: cases files SEED DIR
        cases sessions SEED DIR
        cases example production|legacy FILE
+       cases accepted production|legacy K FILE
        cases example-session FILE.hex OUT.bin";
 
 fn main() -> ExitCode {
@@ -54,6 +56,8 @@ fn make(words: &[&str]) -> Option<io::Result<()>> {
             cases_examples::write_example(Kind::Production, Path::new(file))
         }
         ["example", "legacy", file] => cases_examples::write_example(Kind::Legacy, Path::new(file)),
+        ["accepted", "production", k, file] => accepted(Kind::Production, k.parse().ok()?, file),
+        ["accepted", "legacy", k, file] => accepted(Kind::Legacy, k.parse().ok()?, file),
         ["example-session", file, out] => {
             cases_examples::write_session(Path::new(file), Path::new(out))
         }
@@ -65,6 +69,13 @@ fn files(seed: u64, directory: &Path) -> io::Result<()> {
     let count = cases_files::write_all(seed, directory)?;
     println!("seed {seed} files {count}");
     Ok(())
+}
+
+fn accepted(kind: Kind, k: usize, file: &str) -> io::Result<()> {
+    std::fs::write(
+        file,
+        Draft::random(&mut Rng::new(k as u64), kind, k).plain(),
+    )
 }
 
 fn sessions(seed: u64, directory: &Path) -> io::Result<()> {

@@ -1,6 +1,7 @@
 // The entries for the station's C loader, declared in include/tehilgam.h. C passes a slice as a pointer and then a length.
 ghost use mathlib.Core.Path.{_≡_};
 ghost use Rattle.pec.specs.Pec.{pec};
+ghost use Rattle.image.specs.Check.{answerNumber, checkOf};
 
 // The PEC of some bytes.
 #[no_mangle]
@@ -8,4 +9,14 @@ pub extern "C" fn tehilgam_pec(bytes: &[u8]) -> u8
     ensures { λ r. ⌜ r ≡ pec (now (bytes .entry)) ⌝ }
 {
     pec::of(bytes)
+}
+
+// The refusal number of a file, 0 if accepted.
+#[no_mangle]
+pub extern "C" fn tehilgam_refusal(text: &[u8]) -> u8
+    ensures { λ r. ⌜ r ≡ answerNumber (checkOf (now (text .entry)) .answer) ⌝ }
+{
+    let checked = image::check(text);
+    let answer = checked.answer;
+    answer.number()
 }
