@@ -35,6 +35,16 @@ unfolding reportsIn
 reports-from zero b h = refl
 reports-from (suc k) b h = rw (ne-eqb k b (λ e. omega arith)) (reports-from k b (omega arith))
 
+-- the register shows eight banks: more configurations than eight ask for no more than eight do
+every-same : (n : ℕ) (f g : ℕ → Bool) → ((b : ℕ) → b < n → f b ≡ g b) → everyBelow n f ≡ everyBelow n g
+unfolding everyBelow
+every-same zero f g h = refl
+every-same (suc n) f g h = rw (every-same n f g (λ b k. h b (omega arith)), h n (omega arith))
+
+pub banks-more : (k word : ℕ) → 8 ≤ k → banksRight k word ≡ banksRight 8 word
+unfolding banksRight bankRight
+banks-more k word h = every-same 8 _ _ λ b g. rw (reports-below k b (omega arith), reports-below 8 b g)
+
 -- what the banks are to be
 pub record BanksAre (k word : ℕ) : Type 0 where
   pub reported : (b : ℕ) → b < k → bankIn word (bank b) ≡ 1

@@ -1,6 +1,15 @@
 // The guide's words: verdicts, and its decisions as functions on numbers. The guide itself stands in specs/.
+mod fits;
+mod found;
+mod numbers;
+mod words;
+
 use counts::ConfigNumber;
+pub use fits::wanted;
+pub use found::banks_right;
 use image::Refusal;
+pub use words::cleared;
+pub use words::line_request;
 
 // How a session can end: DONE, a refused beginning (14, or the file's refusal), 20 to 31.
 pub enum Verdict {

@@ -1,0 +1,14 @@
+-- The word is compared with the one at which the banks are right. Assumes nothing.
+use mathlib.Core.Path.{sym}
+use borrow.Author.Needs.{needs}
+use Rattle.guide.proofs.found.banks_right.Statement.{statement}
+use Rattle.guide.proofs.found.banks_right.Tie as tie
+
+banks-word-requires : tie.Need-banks-word-requires
+banks-word-requires c κs = search needs
+
+returns : tie.Need-returns
+returns c = sym (c .banks-word .ensures _ (search needs))
+
+pub banks-right-spec : {M : Type 1} → statement M
+banks-right-spec = tie.close (tie.spec banks-word-requires returns)
