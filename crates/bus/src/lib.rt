@@ -6,16 +6,18 @@ ghost use lib.ListN.{length};
 ghost use Rattle.bus.specs.Bus.{framed, writeOf, pointTo, readOf, noRequest, wordBytes, reserved};
 ghost use Rattle.bus.specs.Form.{wordOf, sealedOf, readForm, formOf};
 
-// Eight bytes, of which `used` are sent; the others are zeros.
+// What is handed to the host: eight bytes, of which `used` are sent or, of a read, ask; the others are zeros.
 pub struct Request {
     pub bytes: [u8; 8],
     pub used: u8,
     pub reads: bool,
 }
 
+// A name for what belongs to the bus: its codes, its registers, and the constructors of its requests.
 pub struct Bus {}
 
 impl Bus {
+    // The device's address, to write and to read.
     pub const WRITE: u8 = 0xC0;
 
     pub const READ: u8 = 0xC1;
@@ -51,7 +53,7 @@ impl Bus {
 
     pub const CRC: u16 = 0x0094;
 
-    // A write of one data byte.
+    // A write of one data byte: RESTORE_CFG with an identifier (document 01, step 6).
     pub fn write1(command: u8, a: u8) -> Request
         ensures { λ r. ⌜ r ≡ writeOf command (a ∷ []) ⌝ }
     {
@@ -63,7 +65,7 @@ impl Bus {
         }
     }
 
-    // A write of two data bytes with this PEC.
+    // A write of two data bytes with this PEC, not one made here: a line of the file is sent with its own last byte (step 3).
     pub fn framed2(command: u8, a: u8, b: u8, pec: u8) -> Request
         ensures { λ r. ⌜ r ≡ framed (0xC0 ∷ command ∷ a ∷ b ∷ []) pec ⌝ }
     {
@@ -74,7 +76,7 @@ impl Bus {
         }
     }
 
-    // A write of four data bytes with this PEC.
+    // The same of four data bytes.
     pub fn framed4(command: u8, a: u8, b: u8, c: u8, d: u8, pec: u8) -> Request
         ensures { λ r. ⌜ r ≡ framed (0xC0 ∷ command ∷ a ∷ b ∷ c ∷ d ∷ []) pec ⌝ }
     {
@@ -85,6 +87,7 @@ impl Bus {
         }
     }
 
+    // A write of two data bytes with the PEC that they have: E7 02 00 of step 1, and what `point` makes.
     pub fn write2(command: u8, a: u8, b: u8) -> Request
         ensures { λ r. ⌜ r ≡ writeOf command (a ∷ b ∷ []) ⌝ }
     {
@@ -92,14 +95,14 @@ impl Bus {
         Bus::framed2(command, a, b, pec::of(&body))
     }
 
-    // The write that points to a register, low byte first.
+    // The write that points to a register, low byte first, before it is read (C7 A2 00 points to 00A2).
     pub fn point(register: u16) -> Request
         ensures { λ r. ⌜ r ≡ pointTo (register % 256) (register / 256) ⌝ }
     {
         Bus::write2(Bus::POINT, (register % 256) as u8, (register / 256) as u8)
     }
 
-    // A write of a word, lowest byte first.
+    // A write of a word, lowest byte first, as words are read: step 1 writes one back.
     pub fn write4(command: u8, word: u32) -> Request
         ensures { λ r. ⌜ r ≡ writeOf command (wordBytes word) ⌝ }
     {
@@ -111,7 +114,7 @@ impl Bus {
         Bus::framed4(command, a, b, c, d, pec::of(&body))
     }
 
-    // A read whose reply has so many bytes.
+    // A read whose reply has so many bytes: 5 for a register, 6 for a block. The count is no byte of the bus.
     pub fn read(command: u8, count: u8) -> Request
         ensures { λ r. ⌜ r ≡ readOf command count ⌝ }
     {
@@ -122,7 +125,7 @@ impl Bus {
         }
     }
 
-    // A request of zeros, which is none.
+    // A request of zeros, which is none: it comes with a verdict.
     pub fn none() -> Request
         ensures { λ r. ⌜ r ≡ noRequest ⌝ }
     {
@@ -133,7 +136,7 @@ impl Bus {
         }
     }
 
-    // Whether RESTORE_CFG may not be this code.
+    // Whether RESTORE_CFG may not be this code, which the guide uses for something else (14 SETTING).
     pub fn reserved(command: u8) -> bool
         ensures { λ r. ⌜ r ≡ reserved command ⌝ }
     {
@@ -207,7 +210,7 @@ fn read_form(asked: [u8; 8], bytes: &[u8]) -> Form
 }
 
 impl Request {
-    // The form of a reply to this request.
+    // The form of a reply to this request, tried at each reply before anything is read from it.
     pub fn form(self, kind: u8, bytes: &[u8]) -> Form
         ensures { λ r. ⌜ r ≡ formOf self kind (now (bytes .entry)) ⌝ }
     {
