@@ -18,3 +18,4 @@ pub mod BurnOnce
 pub mod LineBytes
 pub mod Marks
 pub mod OfText
+pub mod Examples

@@ -1,0 +1,50 @@
+-- The twelve worked examples hold, by computation. Assumes nothing.
+use mathlib.Core.Path.{refl, sym}
+use Prim.Native.Nat.{ℕ}
+use lib.Dec.{eqb}
+use borrow.Author.Tests.{ne-eqb}
+use Rattle.pec.specs.Pec.{topBit, shift, shifts, remainder, step, pecFrom}
+use Rattle.line.specs.declared.Fault.the-variants.{Pairs, Length, Crc}
+use Rattle.line.specs.Digits.{digitVal, allDigits, pairVal, valuesOf}
+use Rattle.line.specs.Reading.{lineOf, badPairs, someTo32, headOk, bodyOk, formOk, lengthRight, crcRight, formRight, readValues, readDigits, readLine}
+use Rattle.image.specs.Says.{word, crcOf}
+use Rattle.bus.specs.Bus.{eight, readOf}
+use Rattle.bus.specs.Form.{wordAt, sealedOf, readForm, doneForm, formOf}
+use Rattle.guide.specs.Examples.{bytesOf, Holds, twelve, Hold}
+
+pub examples-hold : Hold twelve
+unfolding Hold Holds bytesOf readLine readDigits readValues allDigits valuesOf pairVal digitVal badPairs lengthRight crcRight formRight formOk headOk bodyOk someTo32 lineOf crcOf word formOf doneForm readForm sealedOf wordAt readOf eight pecFrom step remainder shifts shift topBit
+examples-hold = (
+  refl,
+  (
+    refl,
+    (
+      refl,
+      (
+        refl,
+        (
+          (refl, refl),
+          (
+            refl,
+            (
+              (Crc, refl, refl),
+              (
+                (Length, refl, refl),
+                (
+                  (Pairs, refl, refl),
+                  (
+                    (Pairs, refl, refl),
+                    (
+                      (refl, λ x h. rw (ne-eqb 0x6A x (λ e. h (sym e)))),
+                      ((refl, λ x h. rw (ne-eqb 0x3C x (λ e. h (sym e)))), tt),
+                    ),
+                  ),
+                ),
+              ),
+            ),
+          ),
+        ),
+      ),
+    ),
+  ),
+)

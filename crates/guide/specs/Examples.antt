@@ -1,0 +1,69 @@
+-- The twelve worked examples of document 01 ("Twelve examples for the proof, others for the run") in one table, and what it is
+-- that holds of each. Assumes nothing.
+use mathlib.Core.Path.{_≡_}
+use mathlib.Core.List.{List, [], _∷_, _++_}
+use Prim.Native.Nat.{ℕ}
+use Prim.Native.Char.{code}
+use Prim.Native.String.{String, [] as noText, _∷_ as _then_}
+use Rattle.counts.specs.Counts.{lineNumber}
+use Rattle.line.specs.declared.Line.{Line}
+use Rattle.line.specs.declared.Fault.{Fault}
+use Rattle.line.specs.declared.LineReading.the-variants as reading
+use Rattle.line.specs.Reading.{faultNumber, readLine}
+use Rattle.image.specs.Says.{crcOf}
+use Rattle.bus.specs.declared.Request.{Request}
+use Rattle.bus.specs.declared.Form.the-variants as form
+use Rattle.bus.specs.Bus.{readData, readBlock}
+use Rattle.bus.specs.Form.{formOf}
+
+-- a text's bytes
+unfoldable pub bytesOf : String → List ℕ
+bytesOf noText = []
+bytesOf (c then s) = code c ∷ bytesOf s
+
+pub data Example : Type 0 where
+  -- as line n, the text is good and says this
+  good : (n : ℕ) → String → Line → Example
+  -- and its data bytes are this configuration CRC
+  tells : (n : ℕ) → String → Line → (crc : ℕ) → Example
+  -- as line n, the text has this number
+  refused : (n : ℕ) → String → (number : ℕ) → Example
+  -- the reply to this request, done, with these bytes and then this PEC, is in form with this word
+  coded : Request → List ℕ → (p w : ℕ) → Example
+
+unfoldable pub Holds : Example → Type 0
+Holds (good n text l) = readLine (lineNumber n) (bytesOf text) ≡ reading.Good l
+Holds (tells n text l crc) = (readLine (lineNumber n) (bytesOf text) ≡ reading.Good l) × (crcOf l ≡ crc)
+Holds (refused n text number) = (f : Fault) × (readLine (lineNumber n) (bytesOf text) ≡ reading.Refused f) × (faultNumber f ≡ number)
+-- and with another last byte it is not: the PEC is this one
+Holds (coded q bs p w) = (formOf q 1 (bs ++ (p ∷ [])) ≡ form.Good w) × ((x : ℕ) → (x ≡ p → ⊥) → formOf q 1 (bs ++ (x ∷ [])) ≡ form.Miscoded)
+
+-- command, data and CRC of a line with two data bytes, and with four
+abbrev two : ℕ → ℕ → ℕ → ℕ → Line
+two command a b crc = record { command = command; count = 2; d0 = a; d1 = b; d2 = 0; d3 = 0; crc = crc }
+
+abbrev four : ℕ → ℕ → ℕ → ℕ → ℕ → ℕ → Line
+four command a b c d crc = record { command = command; count = 4; d0 = a; d1 = b; d2 = c; d3 = d; crc = crc }
+
+abbrev pub twelve : List Example
+twelve =
+    good 1 "4907C0AD49D28100FA" (four 0xAD 0x49 0xD2 0x81 0x00 0xFA)
+    ∷ good 2 "4907C0AE060000004F" (four 0xAE 0x06 0x00 0x00 0x00 0x4F)
+    ∷ good 5 "0005C0C77E0045" (two 0xC7 0x7E 0x00 0x45)
+    ∷ good 5 "0007C0C50000000028" (four 0xC5 0x00 0x00 0x00 0x00 0x28)
+    ∷ tells 5 "0007C0C68298CDE0C1" (four 0xC6 0x82 0x98 0xCD 0xE0 0xC1) 0xE0CD9882
+    ∷ good 5 "0005C0E70800DA" (two 0xE7 0x08 0x00 0xDA)
+    -- CRC, LENGTH, PAIRS
+    ∷ refused 5 "0005C0C77E0044" 5
+    ∷ refused 5 "0006C0C77E0045" 4
+    ∷ refused 5 "" 3
+    -- 25 digits
+    ∷ refused 3 "490AC001352E342E3233334C9" 3
+    -- the counter and the identity
+    ∷ coded readData (0x1C ∷ 0x00 ∷ 0x00 ∷ 0x00 ∷ []) 0x6A 28
+    ∷ coded (readBlock 0xAD) (0x04 ∷ 0x00 ∷ 0x81 ∷ 0xD2 ∷ 0x49 ∷ []) 0x3C 0x49D28100
+    ∷ []
+
+unfoldable pub Hold : List Example → Type 0
+Hold [] = Unit {0}
+Hold (e ∷ es) = Holds e × Hold es
