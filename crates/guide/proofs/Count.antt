@@ -31,6 +31,9 @@ done-most : (c : ℕ) (v : Verdict) → AtMost c (done v)
 unfolding requests
 done-most c v = record { bounds = λ rs. omega arith }
 
+-- a plan that is over asks nothing
+ruleset over = done-most
+
 hear-most : (c : ℕ) (h : Form) (next : ℕ → Plan) → ((w : ℕ) → AtMost c (next w)) → AtMost c (hear h next)
 unfolding hear
 hear-most c Unanswered next f = done-most c _
@@ -51,14 +54,14 @@ cond-most c false f g = g
 
 gate-most : (c : ℕ) {p : Plan} (x : Fit) → AtMost c p → AtMost c (gate x p)
 unfolding gate
-gate-most c Matched f = f
-gate-most c (Fails v) f = done-most c v
+gate-most c Matched f = search over
+gate-most c (Fails v) f = search over
 
 polled-most : (c : ℕ) {p p′ : Plan} (x : Polled) → AtMost c p → AtMost c p′ → AtMost c (polled x p p′)
 unfolding polled
-polled-most c Busy f g = f
-polled-most c Passed f g = g
-polled-most c Failed f g = done-most c _
+polled-most c Busy f g = search over
+polled-most c Passed f g = search over
+polled-most c Failed f g = search over
 
 weaken : (c : ℕ) {d : ℕ} {p : Plan} → d ≤ c → AtMost d p → AtMost c p
 weaken c h f = record { bounds = λ rs. omega (arith, f .bounds rs) }
@@ -119,4 +122,5 @@ module _ (file : Summary) (ls : List Line) (wanted : Bool) (limit restore : ℕ)
 
 pub bounded : (text : List ℕ) → FileFacts text → (wanted : Bool) (limit restore : ℕ) (rs : List Reply) → Bounded text wanted limit restore rs
 unfolding Bounded guideFor
-bounded text facts wanted limit restore rs = counted (summaryOf text) (writeLinesOf text) wanted limit restore (lines-are text facts) rs
+bounded text facts wanted limit restore rs =
+    omega (arith, counted (summaryOf text) (writeLinesOf text) wanted limit restore (lines-are text facts) rs)

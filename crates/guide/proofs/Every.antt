@@ -50,6 +50,9 @@ pub data Other (file : Summary) (restore : ℕ) : Request → Type 0 where
   command : Other file restore (writeOf 0xE7 (0x02 ∷ 0x00 ∷ []))
   load : (N : ℕ) → Other file restore (writeOf restore (idIn file N ∷ []))
 
+-- a plan that is over asks nothing
+ruleset over = ends
+
 module _ {P : Asked → Type 0} where
   hear-every : (h : Form) (next : ℕ → Plan) → ((w : ℕ) → Every P (next w)) → Every P (hear h next)
   unfolding hear
@@ -67,14 +70,14 @@ module _ {P : Asked → Type 0} where
 
   gate-every : (x : Fit) {p : Plan} → Every P p → Every P (gate x p)
   unfolding gate
-  gate-every Matched f = f
-  gate-every (Fails v) f = ends
+  gate-every Matched f = search over
+  gate-every (Fails v) f = search over
 
   polled-every : (x : Polled) {p p′ : Plan} → Every P p → Every P p′ → Every P (polled x p p′)
   unfolding polled
-  polled-every Busy f g = f
-  polled-every Passed f g = g
-  polled-every Failed f g = ends
+  polled-every Busy f g = search over
+  polled-every Passed f g = search over
+  polled-every Failed f g = search over
 
   -- write lines, from number i on
   lines-every : (i : ℕ) (ts : List (List ℕ)) (rest : Plan)
@@ -110,7 +113,7 @@ module _ {P : Asked → Type 0} where
     pub behind-every : (limit : ℕ) → Every P (behind file limit restore)
     unfolding step4
     behind-every limit =
-        other-every _ _ (point 0x7E 0x00) λ _. polls-every limit _ (step5-every (file .configs) _ (verify-every (file .configs) 0))
+        other-every _ _ (point 0x7E 0x00) λ _. polls-every limit _ (step5-every _ _ (verify-every _ _))
 
     step2-every : (rest : Plan) → Every P rest → Every P (step2 file rest)
     unfolding step2

@@ -27,10 +27,10 @@ Wants kind counter flag =
 
 wants-is : {kind : Kind} (counter flag : ℕ) → Wants kind counter flag → wantedOf counter flag ≡ Is kind
 unfolding wantedOf
-wants-is counter flag (inl (e, f, h)) = rw (e, f, lt-ltb counter 28 h)
+wants-is counter flag (inl (e, f, h)) = simp (e, f, lt-ltb counter 28 h)
 wants-is counter flag (inr (e, inl f)) = rw (e, f)
 wants-is counter flag (inr (e, inr f)) =
-    split (eqb flag 0) (λ g. rw (e, f, g, ne-eqb flag 0xFFFE0001 (λ x. omega (arith, eqb-true flag 0 g))))
+    split (eqb flag 0) (λ g. simp (e, f, g, ne-eqb flag 0xFFFE0001 (λ x. omega (arith, eqb-true flag 0 g))))
     (λ g. split (eqb flag 0xFFFE0001) (λ h. rw (e, f, g, h)) (λ h. rw (e, f, g, h)))
 
 none-wanted : {A : Type 0} (kind : Kind) → Unknown ≡ Is kind → A
@@ -39,24 +39,19 @@ none-wanted kind e = let z : _≡_ {A = ℕ} 0 1 = cc in absurd (let y : ⊥ = o
 is-wants : (kind : Kind) (counter flag : ℕ) → wantedOf counter flag ≡ Is kind → Wants kind counter flag
 unfolding wantedOf
 is-wants kind counter flag e =
-    split (cond (eqb flag 0) (ltb counter 28) false)
-    (λ g. let p = and-true (eqb flag 0) (ltb counter 28) g in inl (cc (simp g at e), eqb-true flag 0 (p .0), ltb-true counter 28 (p .1)))
+    split (eqb flag 0)
+    (λ g. let other : eqb flag 0xFFFE0001 ≡ false = ne-eqb flag 0xFFFE0001 (λ x. omega (arith, eqb-true flag 0 g)) in
+    split (ltb counter 28) (λ h. inl (cc (simp (g, h) at e), eqb-true flag 0 g, ltb-true counter 28 h))
+    (λ h. split (eqb counter 28) (λ j. inr (cc (simp (g, h, other, j) at e), inr (eqb-true counter 28 j)))
+    (λ j. none-wanted kind (simp (g, h, other, j) at e))))
     (λ g. split (eqb flag 0xFFFE0001) (λ h. inr (cc (simp (g, h) at e), inl (eqb-true flag 0xFFFE0001 h)))
     (λ h. split (eqb counter 28) (λ j. inr (cc (simp (g, h, j) at e), inr (eqb-true counter 28 j)))
     (λ j. none-wanted kind (simp (g, h, j) at e))))
 
--- ---- a test that the judgement has passed
+-- ---- the judgement
 
 fails : {A : Type 0} (v : Verdict) → Fails v ≡ Matched → A
 fails v e = let z : _≡_ {A = ℕ} 0 1 = cc in absurd (let y : ⊥ = omega arith in y)
-
-must : (test : Bool) (x : Fit) (v : Verdict) → cond test x (Fails v) ≡ Matched → (test ≡ true) × (x ≡ Matched)
-must true x v e = (refl, e)
-must false x v e = fails v e
-
-must-not : (test : Bool) (x : Fit) (v : Verdict) → cond test (Fails v) x ≡ Matched → (test ≡ false) × (x ≡ Matched)
-must-not true x v e = fails v e
-must-not false x v e = (refl, e)
 
 same-kind : (kind : Kind) → sameKind kind kind ≡ true
 unfolding sameKind
@@ -74,7 +69,7 @@ module _ (file : Summary) (counter identity flag revision : ℕ) where
   passing : Fits file counter identity flag revision → fitOf (file .kind) (file .identity) (file .configs) 0 counter identity flag revision ≡ Matched
   unfolding fitOf fitKind
   passing f =
-      rw (
+      simp (
         le-ltb 28 counter (f .counted),
         eq-eqb identity (file .identity) (f .same),
         wants-is counter flag (f .kind),
@@ -90,25 +85,27 @@ module _ (file : Summary) (counter identity flag revision : ℕ) where
   unfolding fitKind
   kind-known Unknown e = fails Flag e
   kind-known (Is wanted) e =
-      let p1 = must-not (ltb (revision / 16777216) 6) _ Old e in
-      let p2 = must (sameKind (file .kind) wanted) _ OtherKind (p1 .1) in
-      let p3 = must-not (ltb counter (file .configs + 0)) Matched Places (p2 .1) in
-      let h = ltb-false counter (file .configs + 0) (p3 .0) in
-      (ltb-false (revision / 16777216) 6 (p1 .0), ap Is (kind-same (file .kind) wanted (p2 .0)), omega arith)
+      split (ltb (revision / 16777216) 6) (λ a. fails Old (simp a at e))
+      (λ a. split (sameKind (file .kind) wanted)
+      (λ b. split (ltb counter (file .configs + 0)) (λ c. fails Places (simp (a, b, c) at e))
+      (λ c. let h = ltb-false counter (file .configs + 0) c in
+      (ltb-false (revision / 16777216) 6 a, ap Is (kind-same (file .kind) wanted b), omega arith)))
+      (λ b. fails OtherKind (simp (a, b) at e)))
 
   matching : fitOf (file .kind) (file .identity) (file .configs) 0 counter identity flag revision ≡ Matched → Fits file counter identity flag revision
   unfolding fitOf
   matching e =
-      let p1 = must-not (ltb 28 counter) _ Counter e in
-      let p2 = must (eqb identity (file .identity)) _ Identity (p1 .1) in
-      let k = kind-known (wantedOf counter flag) (p2 .1) in
+      split (ltb 28 counter) (λ a. fails Counter (simp a at e))
+      (λ a. split (eqb identity (file .identity))
+      (λ b. let k = kind-known (wantedOf counter flag) (simp (a, b) at e) in
       record {
-        counted = ltb-false 28 counter (p1 .0);
-        same = eqb-true identity (file .identity) (p2 .0);
+        counted = ltb-false 28 counter a;
+        same = eqb-true identity (file .identity) b;
         young = k .0;
         kind = is-wants (file .kind) counter flag (k .1);
         places = k .2;
-      }
+      })
+      (λ b. fails Identity (simp (a, b) at e)))
 
   pub judged-exactly : JudgedExactly file counter identity flag revision
   judged-exactly = record { passes = passing; matches = matching }
