@@ -174,6 +174,7 @@ fn word(a: u8, b: u8, c: u8, d: u8) -> u32
     a as u32 + b as u32 * 256 + c as u32 * 65536 + d as u32 * 16777216
 }
 
+// The word at this place, if the byte behind it is the PEC of C0, the command, C1 and the bytes before it.
 fn sealed(asked: [u8; 8], bytes: &[u8], at: usize) -> Form
     requires { ⌜ (at ≤ 1) × (length (now bytes) ≡ at + 5) ⌝ }
     ensures { λ r. ⌜ r ≡ sealedOf asked (now (bytes .entry)) at ⌝ }
@@ -187,6 +188,7 @@ fn sealed(asked: [u8; 8], bytes: &[u8], at: usize) -> Form
     }
 }
 
+// A read's reply has as many bytes as it was asked for: five, or six of which the first is 4.
 fn read_form(asked: [u8; 8], bytes: &[u8]) -> Form
     ensures { λ r. ⌜ r ≡ readForm asked (now (bytes .entry)) ⌝ }
 {

@@ -15,6 +15,7 @@ use Rattle.image.specs.declared.Summary.{Summary}
 use Rattle.bus.specs.Bus.{framed, writeOf, pointTo, readData}
 use Rattle.guide.specs.declared.Verdict.{Verdict}
 use Rattle.guide.specs.declared.Verdict.the-variants.{Done, Program, Banks, Mismatch}
+use Rattle.guide.specs.declared.Polled.the-variants.{Busy}
 use Rattle.guide.specs.Numbers.{numberOf}
 use Rattle.guide.specs.Judged.{banksRight}
 use Rattle.guide.specs.Plan.{Reply, Mark, other, fileLine, Plan, done, ended, verdict}
@@ -48,21 +49,31 @@ module _ {C : Type 0} where
   lines-way i (l ∷ ls) rest rs go =
       bind-write (not-done-keeps (fileLine i)) _ _ rs refl λ r c. lines-way (i + 1) ls rest r λ last t. go last (then c t)
 
+  over-way : (rs : List Reply) → NotDone (done Program) rs ⊎ C
+  over-way rs = inl (keeps .ends Program rs (omega arith))
+
+  ruleset over = over-way
+
+  again-way : (again rest : Plan) (rs : List Reply) → NotDone again rs ⊎ C → NotDone (polled Busy again rest) rs ⊎ C
+  unfolding polled
+  again-way again rest rs f = search over
+
   polls-way : (left : ℕ) (rest : Plan) (rs : List Reply)
       → ((busy : List ℕ) (w : ℕ) (mid last : List Reply) → Through (heard4 busy) rs mid → Came readData w mid last → length busy < left → Clear busy
       → w % 64 ≡ 1 → NotDone rest last ⊎ C)
       → NotDone (polls left rest) rs ⊎ C
   unfolding polls polled heard4
-  polls-way zero rest rs go = inl (keeps .ends Program rs (omega arith))
+  polls-way zero rest rs go = over-way rs
   polls-way (suc left) rest rs go =
       bind keeps _ _ rs λ w r c.
       split (eqb (w % 2) 0)
       (λ e. let f = eqb-true (w % 2) 0 e in
       rw (busy-is w f)
-      (polls-way left rest r λ busy w2 mid last t d h g p. go (w ∷ busy) w2 mid last (then c t) d (omega arith) (clear-more w busy f g) p))
+      (again-way (polls left rest) rest r
+      (polls-way left rest r λ busy w2 mid last t d h g p. go (w ∷ busy) w2 mid last (then c t) d (omega arith) (clear-more w busy f g) p)))
       (λ e. split (eqb (w % 64) 1)
       (λ f. let p = eqb-true (w % 64) 1 f in rw (passed-is w p) (go [] w rs r here c (omega arith) (λ i h. absurd (let y : ⊥ = omega arith in y)) p))
-      (λ f. rw (failed-is w (eqb-false (w % 2) 0 e) (eqb-false (w % 64) 1 f)) (inl (keeps .ends Program r (omega arith)))))
+      (λ f. rw (failed-is w (eqb-false (w % 2) 0 e) (eqb-false (w % 64) 1 f)) (over-way r)))
 
   pub step4-way : (limit : ℕ) (rest : Plan) (rs : List Reply)
       → ((first : List Reply) → Came (pointTo 0x7E 0x00) 0 rs first → (busy : List ℕ) (w : ℕ) (mid last : List Reply)

@@ -1,7 +1,5 @@
 -- The twelve worked examples hold, by computation. Assumes nothing.
 use mathlib.Core.Path.{refl, sym}
-use Prim.Native.Nat.{ℕ}
-use lib.Dec.{eqb}
 use borrow.Author.Tests.{ne-eqb}
 use Rattle.pec.specs.Pec.{topBit, shift, shifts, remainder, step, pecFrom}
 use Rattle.line.specs.declared.Fault.the-variants.{Pairs, Length, Crc}
