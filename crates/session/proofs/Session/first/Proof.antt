@@ -1,0 +1,34 @@
+-- By the setting, and what each call ensures. Assumes nothing.
+use mathlib.Core.Path.{_∙_, ap}
+use mathlib.Core.Bool.{true, false}
+use Rattle.session.specs.Moves.{putOf}
+use Rattle.session.specs.Begin.{firstOf}
+use Rattle.session.proofs.Tests.{chosen}
+use borrow.Author.Needs.{needs}
+use Rattle.session.proofs.Session.first.Statement.{statement}
+use Rattle.session.proofs.Session.first.Tie as tie
+
+point-requires : tie.Need-point-requires
+point-requires c κs = search needs
+
+put-requires : tie.Need-put-requires
+put-requires c κs = search needs
+
+point-requires-2 : tie.Need-point-requires-2
+point-requires-2 c κs = search needs
+
+put-requires-2 : tie.Need-put-requires-2
+put-requires-2 c κs = search needs
+
+returns : tie.Need-returns
+unfolding firstOf
+returns c = c .put .ensures ∙ (ap (putOf _ _) (c .before .point .ensures) ∙ chosen _ true _ _ (c .before .before .if1 .taken))
+
+returns-2 : tie.Need-returns-2
+unfolding firstOf
+returns-2 c = c .put2 .ensures ∙ (ap (putOf _ _) (c .before .point2 .ensures) ∙ chosen _ false _ _ (c .before .before .if1 .left))
+
+pub first-spec : {M : Type 1} → statement M
+first-spec =
+    tie.close
+    (tie.spec point-requires put-requires point-requires-2 put-requires-2 returns returns-2)

@@ -1,0 +1,18 @@
+-- By what the call ensures; the count is set after it. Assumes nothing.
+use Rattle.session.specs.Moves.{withStage, withSent, putOf}
+use borrow.Author.Needs.{needs}
+use Rattle.session.proofs.Session.put.Statement.{statement}
+use Rattle.session.proofs.Session.put.Tie as tie
+
+at-requires : tie.Need-at-requires
+at-requires c κs = search needs
+
+add-next : tie.Need-add-next
+add-next c = search needs
+
+returns : tie.Need-returns
+unfolding putOf withSent withStage
+returns c = rw (c .before .at .ensures)
+
+pub put-spec : {M : Type 1} → statement M
+put-spec = tie.close (tie.spec at-requires add-next returns)

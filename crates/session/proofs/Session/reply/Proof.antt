@@ -1,0 +1,54 @@
+-- By the stage that is held, then by the state; the stages are handed what they use of a state that passed. Assumes nothing.
+use mathlib.Core.Path.{_∙_, ap}
+use mathlib.Core.Bool.{true, false}
+use Rattle.line.proofs.Basics.{via}
+use Rattle.session.specs.Reply.{repliedOf}
+use Rattle.session.proofs.Laws.{ready, when-ended, when-open}
+use borrow.Author.Needs.{needs}
+use Rattle.session.proofs.Session.reply.Statement.{statement}
+use Rattle.session.proofs.Session.reply.Tie as tie
+
+enum-known-stage : tie.Need-enum-known-stage
+enum-known-stage c = search needs
+
+over-requires : tie.Need-over-requires
+over-requires c κs = search needs
+
+enum-known-stage-2 : tie.Need-enum-known-stage-2
+enum-known-stage-2 c = search needs
+
+sound-requires : tie.Need-sound-requires
+sound-requires c κs = search needs
+
+form-requires : tie.Need-form-requires
+form-requires c κs = search needs
+
+replied-requires : tie.Need-replied-requires
+replied-requires c κs = ready _ (via (c .before .before .before .sound .ensures) (c .before .before .if1 .taken))
+
+bad-requires : tie.Need-bad-requires
+bad-requires c κs = search needs
+
+returns : tie.Need-returns
+returns c = c .over .ensures ∙ when-ended _ _ _ _ _ (c .before .before .stage .given .1)
+
+returns-2 : tie.Need-returns-2
+returns-2 c = c .replied .ensures ∙ (ap (repliedOf _ _ _) (c .before .form .ensures) ∙ when-open _ _ _ _ _ true (c .before .before .before .before .before .before .stage2 .given .1) (via (c .before .before .before .before .sound .ensures) (c .before .before .before .if1 .taken)))
+
+returns-3 : tie.Need-returns-3
+returns-3 c = c .bad .ensures ∙ when-open _ _ _ _ _ false (c .before .before .before .before .stage2 .given .1) (via (c .before .before .sound .ensures) (c .before .if1 .left))
+
+pub reply-spec : {M : Type 1} → statement M
+reply-spec =
+    tie.close
+    (tie.spec
+    enum-known-stage
+    over-requires
+    enum-known-stage-2
+    sound-requires
+    form-requires
+    replied-requires
+    bad-requires
+    returns
+    returns-2
+    returns-3)

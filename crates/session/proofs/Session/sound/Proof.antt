@@ -1,0 +1,34 @@
+-- The same tests in the same order. Assumes nothing.
+use mathlib.Core.Path.{_∙_}
+use Rattle.line.proofs.Basics.{via}
+use Rattle.session.specs.Sound.{stateTests, soundOf}
+use Rattle.session.proofs.Tests.{all-not, all-last1, all-next}
+use borrow.Author.Needs.{needs}
+use Rattle.session.proofs.Session.sound.Statement.{statement}
+use Rattle.session.proofs.Session.sound.Tie as tie
+
+allowed-requires : tie.Need-allowed-requires
+allowed-requires c κs = search needs
+
+file-sound-requires : tie.Need-file-sound-requires
+file-sound-requires c κs = search needs
+
+held-sound-requires : tie.Need-held-sound-requires
+held-sound-requires c κs = search needs
+
+returns : tie.Need-returns
+unfolding soundOf stateTests
+returns c = c .held-sound .ensures ∙ all-next _ _ _ (via (c .before .before .before .before .allowed .ensures) (c .before .before .before .if1 .taken)) (all-next _ _ _ (via (c .before .before .file-sound .ensures) (c .before .if2 .taken)) (all-last1 _))
+
+returns-2 : tie.Need-returns-2
+unfolding soundOf stateTests
+returns-2 c = all-not (stateTests (c .before .before .before .before .before .before .args .self)) 1 (via (c .before .file-sound .ensures) (c .if2 .left))
+
+returns-3 : tie.Need-returns-3
+unfolding soundOf stateTests
+returns-3 c = all-not (stateTests (c .before .before .before .before .args .self)) 0 (via (c .before .allowed .ensures) (c .if1 .left))
+
+pub sound-spec : {M : Type 1} → statement M
+sound-spec =
+    tie.close
+    (tie.spec allowed-requires file-sound-requires held-sound-requires returns returns-2 returns-3)

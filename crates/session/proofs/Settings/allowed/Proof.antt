@@ -1,0 +1,29 @@
+-- The same tests in the same order. Assumes nothing.
+use borrow.Author.Tests.{le-leb, lt-leb}
+use Rattle.line.proofs.Basics.{via}
+use Rattle.session.specs.Sound.{all, settingTests, allowedOf}
+use borrow.Author.Needs.{needs}
+use Rattle.session.proofs.Settings.allowed.Statement.{statement}
+use Rattle.session.proofs.Settings.allowed.Tie as tie
+
+returns : tie.Need-returns
+unfolding all settingTests allowedOf
+returns c = simp (lt-leb _ _ (c .if1 .taken))
+
+returns-2 : tie.Need-returns-2
+unfolding all settingTests allowedOf
+returns-2 c = simp (le-leb _ _ (c .before .before .if1 .left), lt-leb _ _ (c .if2 .taken))
+
+reserved-requires : tie.Need-reserved-requires
+reserved-requires c κs = search needs
+
+returns-3 : tie.Need-returns-3
+unfolding all settingTests allowedOf
+returns-3 c = simp (le-leb _ _ (c .before .before .before .before .if1 .left), le-leb _ _ (c .before .before .if2 .left), via (c .before .reserved .ensures) (c .if3 .taken))
+
+returns-4 : tie.Need-returns-4
+unfolding all settingTests allowedOf
+returns-4 c = simp (le-leb _ _ (c .before .before .before .before .if1 .left), le-leb _ _ (c .before .before .if2 .left), via (c .before .reserved .ensures) (c .if3 .left))
+
+pub allowed-spec : {M : Type 1} → statement M
+allowed-spec = tie.close (tie.spec returns returns-2 reserved-requires returns-3 returns-4)

@@ -1,0 +1,55 @@
+-- By the settings, and what the file's check says. Assumes nothing.
+use mathlib.Core.Path.{_∙_}
+use Rattle.line.proofs.Basics.{via}
+use Rattle.session.specs.Begin.{answeredOf}
+use Rattle.session.proofs.Laws.{begin-answered, begin-not}
+use borrow.Author.Needs.{needs}
+use Rattle.session.proofs.Settings.begin.Statement.{statement}
+use Rattle.session.proofs.Settings.begin.Tie as tie
+
+allowed-requires : tie.Need-allowed-requires
+allowed-requires c κs = search needs
+
+check-requires : tie.Need-check-requires
+check-requires c κs = search needs
+
+enum-told : tie.Need-enum-told
+enum-told c = search needs
+
+start-requires : tie.Need-start-requires
+start-requires c κs = search needs
+
+enum-known-answer : tie.Need-enum-known-answer
+enum-known-answer c = search needs
+
+refused-requires : tie.Need-refused-requires
+refused-requires c κs = search needs
+
+refused-requires-2 : tie.Need-refused-requires-2
+refused-requires-2 c κs = search needs
+
+returns : tie.Need-returns
+unfolding answeredOf
+returns c = c .start .ensures ∙ begin-answered _ _ _ _ (c .before .before .before .before .check .ensures) (via (c .before .before .before .before .before .before .allowed .ensures) (c .before .before .before .before .before .if1 .taken)) (c .before .enum-told .given .1)
+
+returns-2 : tie.Need-returns-2
+unfolding answeredOf
+returns-2 c = c .refused .ensures ∙ begin-answered _ _ _ _ (c .before .before .before .before .before .check .ensures) (via (c .before .before .before .before .before .before .before .allowed .ensures) (c .before .before .before .before .before .before .if1 .taken)) (c .before .before .answer .given .1)
+
+returns-3 : tie.Need-returns-3
+returns-3 c = c .refused2 .ensures ∙ begin-not _ _ (via (c .before .before .allowed .ensures) (c .before .if1 .left))
+
+pub begin-spec : {M : Type 1} → statement M
+begin-spec =
+    tie.close
+    (tie.spec
+    allowed-requires
+    check-requires
+    enum-told
+    start-requires
+    enum-known-answer
+    refused-requires
+    refused-requires-2
+    returns
+    returns-2
+    returns-3)

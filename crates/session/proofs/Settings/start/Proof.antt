@@ -1,0 +1,27 @@
+-- By what each call ensures. Assumes nothing.
+use native.Mathlib.Omega.{arith}
+use Rattle.session.specs.Begin.{freshOf, startOf}
+use borrow.Author.Needs.{needs}
+use Rattle.session.proofs.Settings.start.Statement.{statement}
+use Rattle.session.proofs.Settings.start.Tie as tie
+
+first-write-requires : tie.Need-first-write-requires
+first-write-requires c κs = search needs
+
+new-requires : tie.Need-new-requires
+new-requires c κs = search needs
+
+fresh-requires : tie.Need-fresh-requires
+fresh-requires c κs = search needs
+
+first-requires : tie.Need-first-requires
+unfolding freshOf
+first-requires c κs = rw (c .fresh .ensures) (omega arith)
+
+returns : tie.Need-returns
+unfolding startOf
+returns c = rw (c .first .ensures, c .before .fresh .ensures, c .before .before .new .ensures, c .before .before .before .first-write .ensures)
+
+pub start-spec : {M : Type 1} → statement M
+start-spec =
+    tie.close (tie.spec first-write-requires new-requires fresh-requires first-requires returns)

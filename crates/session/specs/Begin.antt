@@ -1,0 +1,55 @@
+-- The beginning (document 01, "The session"): settings, file, first request. Assumes nothing.
+use Prim.Native.Nat.{ℕ}
+use mathlib.Core.List.{List}
+use mathlib.Core.Bool.{false, cond}
+use Rattle.counts.specs.declared.LineNumber.{LineNumber}
+use Rattle.counts.specs.Counts.{lineNumber, configNumber, firstLine}
+use Rattle.image.specs.declared.Summary.{Summary}
+use Rattle.image.specs.declared.Checked.{Checked}
+use Rattle.image.specs.declared.Answer.{Answer}
+use Rattle.image.specs.declared.Answer.the-variants.{Accepted, Refused}
+use Rattle.image.specs.Says.{noSummary}
+use Rattle.image.specs.Check.{checkOf}
+use Rattle.bus.specs.Bus.{noRequest, pointTo}
+use Rattle.guide.specs.declared.Verdict.{Verdict}
+use Rattle.guide.specs.declared.Verdict.the-variants.{Setting, File}
+use Rattle.session.specs.declared.Settings.{Settings}
+use Rattle.session.specs.declared.Position.{Position}
+use Rattle.session.specs.declared.Session.{Session}
+use Rattle.session.specs.declared.Handed.{Handed}
+use Rattle.session.specs.declared.Stage.{Stage}
+use Rattle.session.specs.declared.Stage.the-variants.{Open, Ended}
+use Rattle.session.specs.declared.Step.the-variants.{TrimAt, CounterAt}
+use Rattle.session.specs.Sound.{allowedOf}
+use Rattle.session.specs.Moves.{putOf, overOf}
+
+-- nothing read yet
+unfoldable pub newPosition : LineNumber → ℕ → Position
+newPosition n place = record { line = n; place = place; config = configNumber 0; polls = 0; counter = 0; identity = 0; flag = 0 }
+
+-- nothing put out yet: count 0, no burn, a request of zeros
+unfoldable pub freshOf : Settings → Summary → Stage → Position → Session
+freshOf S f g p = record { settings = S; file = f; stage = g; hand = noRequest; position = p; sent = 0; burned = false }
+
+-- step 1 if wanted, else step 2: write C7 A2 00, or C7 35 00
+unfoldable pub firstOf : Session → Handed
+firstOf s = cond (s .settings .wanted) (putOf s TrimAt (pointTo 0xA2 0x00)) (putOf s CounterAt (pointTo 0x35 0x00))
+
+-- an accepted begin hands back the first request, count 1; the line in hand is 5, and the place is where it begins
+unfoldable pub startOf : Settings → Summary → Handed
+startOf S f = firstOf (freshOf S f (Open TrimAt) (newPosition firstLine (f .first)))
+
+-- a refused one hands back an ended state whose verdict is that number, and zeros
+unfoldable pub refusedOf : Settings → Verdict → Handed
+refusedOf S v = overOf (freshOf S noSummary (Ended v) (newPosition (lineNumber 0) 0)) v
+
+unfoldable pub answeredOf : Settings → Summary → Answer → Handed
+answeredOf S f Accepted = startOf S f
+answeredOf S f (Refused r) = refusedOf S (File r)
+
+unfoldable pub checkedOf : Settings → Checked → Handed
+checkedOf S k = answeredOf S (k .summary) (k .answer)
+
+-- settings come first: 14
+unfoldable pub beginOf : Settings → List ℕ → Handed
+beginOf S text = cond (allowedOf S) (checkedOf S (checkOf text)) (refusedOf S Setting)

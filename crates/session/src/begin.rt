@@ -1,0 +1,95 @@
+// The beginning: one operation checks the settings, checks the file and begins.
+use crate::Handed;
+use crate::Position;
+use crate::Session;
+use crate::Settings;
+use crate::Stage;
+use crate::Step;
+use bus::Bus;
+use counts::ConfigNumber;
+use counts::LineNumber;
+use guide::Verdict;
+use image::Answer;
+use image::Summary;
+ghost use mathlib.Core.Path.{_≡_};
+ghost use Prim.Native.Nat.{_<_};
+ghost use Rattle.session.specs.Begin.{newPosition, freshOf, firstOf, startOf, refusedOf, beginOf};
+
+impl Position {
+    // With nothing read.
+    fn new(line: LineNumber, place: usize) -> Position
+        ensures { λ r. ⌜ r ≡ newPosition line place ⌝ }
+    {
+        Position {
+            line: line,
+            place: place,
+            config: ConfigNumber(0),
+            polls: 0,
+            counter: 0,
+            identity: 0,
+            flag: 0,
+        }
+    }
+}
+
+impl Session {
+    // With no request put out.
+    fn fresh(settings: Settings, file: Summary, stage: Stage, position: Position) -> Session
+        ensures { λ r. ⌜ r ≡ freshOf settings file stage position ⌝ }
+    {
+        Session {
+            settings: settings,
+            file: file,
+            stage: stage,
+            hand: Bus::none(),
+            position: position,
+            sent: 0,
+            burned: false,
+        }
+    }
+
+    fn first(self) -> Handed
+        requires { ⌜ self .sent < 4294967295 ⌝ }
+        ensures { λ r. ⌜ r ≡ firstOf self ⌝ }
+    {
+        if self.settings.wanted {
+            self.put(Step::TrimAt, Bus::point(Bus::TRIM))
+        } else {
+            self.put(Step::CounterAt, Bus::point(Bus::COUNTER))
+        }
+    }
+}
+
+impl Settings {
+    // The first request, for a file that says this.
+    fn start(self, file: Summary) -> Handed
+        ensures { λ r. ⌜ r ≡ startOf self file ⌝ }
+    {
+        let position = Position::new(LineNumber::first_write(), file.first);
+        Session::fresh(self, file, Stage::Open(Step::TrimAt), position).first()
+    }
+
+    // An ended state, of which only the settings and the verdict say anything.
+    fn refused(self, verdict: Verdict) -> Handed
+        ensures { λ r. ⌜ r ≡ refusedOf self verdict ⌝ }
+    {
+        let position = Position::new(LineNumber(0), 0);
+        Session::fresh(self, Summary::none(), Stage::Ended(verdict), position).over(verdict)
+    }
+
+    pub fn begin(self, text: &[u8]) -> Handed
+        ensures { λ r. ⌜ r ≡ beginOf self (now (text .entry)) ⌝ }
+    {
+        if self.allowed() {
+            let checked = image::check(text);
+            let answer = checked.answer;
+            let summary = checked.summary;
+            match answer {
+                Answer::Accepted => self.start(summary),
+                Answer::Refused(refusal) => self.refused(Verdict::File(refusal)),
+            }
+        } else {
+            self.refused(Verdict::Setting)
+        }
+    }
+}

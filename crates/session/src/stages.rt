@@ -1,0 +1,139 @@
+// What each reply leads to.
+use crate::Handed;
+use crate::Session;
+use crate::Step;
+use bus::Bus;
+use counts::ConfigNumber;
+use counts::LineNumber;
+use guide::Fit;
+use guide::Polled;
+use guide::Verdict;
+ghost use mathlib.Core.Path.{_≡_};
+ghost use Prim.Native.Nat.{_<_};
+ghost use Rattle.session.specs.Moves.{Ready};
+ghost use Rattle.session.specs.Stages.{counterDoneOf, identityDoneOf, flagDoneOf, revisionDoneOf, pollAgainOf, statusDoneOf, restoreOf, banksDoneOf, crcDoneOf};
+
+impl Session {
+    pub(crate) fn counter_done(self, word: u32) -> Handed
+        requires { ⌜ Ready self ⌝ }
+        ensures { λ r. ⌜ r ≡ counterDoneOf self word ⌝ }
+    {
+        let mut p = self.position;
+        p.counter = word;
+        self.moved(p)
+            .put(Step::IdentityRead, Bus::read(Bus::IDENTITY, 6))
+    }
+
+    pub(crate) fn identity_done(self, word: u32) -> Handed
+        requires { ⌜ Ready self ⌝ }
+        ensures { λ r. ⌜ r ≡ identityDoneOf self word ⌝ }
+    {
+        let mut p = self.position;
+        p.identity = word;
+        self.moved(p).put(Step::FlagAt, Bus::point(Bus::FLAG))
+    }
+
+    pub(crate) fn flag_done(self, word: u32) -> Handed
+        requires { ⌜ Ready self ⌝ }
+        ensures { λ r. ⌜ r ≡ flagDoneOf self word ⌝ }
+    {
+        let mut p = self.position;
+        p.flag = word;
+        self.moved(p)
+            .put(Step::RevisionRead, Bus::read(Bus::REVISION, 6))
+    }
+
+    pub(crate) fn revision_done(self, text: &[u8], word: u32) -> Handed
+        requires { ⌜ Ready self ⌝ }
+        ensures { λ r. ⌜ r ≡ revisionDoneOf (now (text .entry)) self word ⌝ }
+    {
+        let file = self.file;
+        let kind = file.kind;
+        let p = self.position;
+        let fit = Fit::of(
+            kind,
+            file.identity,
+            file.configs,
+            0,
+            p.counter,
+            p.identity,
+            p.flag,
+            word,
+        );
+        match fit {
+            Fit::Matched => self.put_line(text, LineNumber::first_write()),
+            Fit::Fails(verdict) => self.end(verdict),
+        }
+    }
+
+    // Bit 0 was clear: one poll more is used.
+    fn poll_again(self) -> Handed
+        requires { ⌜ Ready self ⌝ }
+        ensures { λ r. ⌜ r ≡ pollAgainOf self ⌝ }
+    {
+        let polls = self.position.polls + 1;
+        if polls < self.settings.limit {
+            let mut p = self.position;
+            p.polls = polls;
+            self.moved(p).put(Step::StatusRead, Bus::read(Bus::DATA, 5))
+        } else {
+            self.end(Verdict::Program)
+        }
+    }
+
+    pub(crate) fn status_done(self, word: u32) -> Handed
+        requires { ⌜ Ready self ⌝ }
+        ensures { λ r. ⌜ r ≡ statusDoneOf self word ⌝ }
+    {
+        let polled = Polled::of(word);
+        match polled {
+            Polled::Busy => self.poll_again(),
+            Polled::Passed => self.put(Step::BanksAt, Bus::point(Bus::BANKS)),
+            Polled::Failed => self.end(Verdict::Program),
+        }
+    }
+
+    // The identifier of this configuration goes out.
+    fn restore(self, number: ConfigNumber) -> Handed
+        requires { ⌜ Ready self × (number .0 < 8) ⌝ }
+        ensures { λ r. ⌜ r ≡ restoreOf self number ⌝ }
+    {
+        let mut p = self.position;
+        p.config = number;
+        let i = number.0 as usize;
+        let ids = self.file.ids;
+        let id = ids[i];
+        self.moved(p)
+            .put(Step::Restore, Bus::write1(self.settings.restore, id.0))
+    }
+
+    pub(crate) fn banks_done(self, word: u32) -> Handed
+        requires { ⌜ Ready self ⌝ }
+        ensures { λ r. ⌜ r ≡ banksDoneOf self word ⌝ }
+    {
+        if guide::banks_right(self.file.configs, word) {
+            self.restore(ConfigNumber(0))
+        } else {
+            self.end(Verdict::Banks)
+        }
+    }
+
+    pub(crate) fn crc_done(self, word: u32) -> Handed
+        requires { ⌜ Ready self ⌝ }
+        ensures { λ r. ⌜ r ≡ crcDoneOf self word ⌝ }
+    {
+        let config = self.position.config;
+        let i = config.0 as usize;
+        let crcs = self.file.crcs;
+        if word == crcs[i] {
+            let next = config.0 + 1;
+            if next < self.file.configs {
+                self.restore(ConfigNumber(next))
+            } else {
+                self.end(Verdict::Done)
+            }
+        } else {
+            self.end(Verdict::Mismatch(config))
+        }
+    }
+}
