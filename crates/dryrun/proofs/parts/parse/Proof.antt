@@ -1,0 +1,66 @@
+-- The same tests in the same order. Assumes nothing.
+use borrow.Author.Tests.{lt-ltb, le-ltb}
+use mathlib.Core.Path.{sym, _∙_}
+use Rattle.dryrun.specs.Parts.{inputOf}
+use borrow.Author.Needs.{needs}
+use Rattle.dryrun.proofs.parts.parse.Statement.{statement}
+use Rattle.dryrun.proofs.parts.parse.Tie as tie
+
+returns : tie.Need-returns
+unfolding inputOf
+returns c = rw (lt-ltb _ _ (c .if1 .taken))
+
+file-length-requires : tie.Need-file-length-requires
+file-length-requires c κs = search needs
+
+returns-2 : tie.Need-returns-2
+unfolding inputOf
+returns-2 c = rw (le-ltb _ _ (c .before .before .if1 .left), ← c .before .file-length .ensures, lt-ltb _ _ (c .if2 .taken))
+
+add-if3 : tie.Need-add-if3
+add-if3 c = search needs
+
+returns-3 : tie.Need-returns-3
+unfolding inputOf
+returns-3 c = rw (le-ltb _ _ (c .before .before .before .if1 .left), ← c .before .before .file-length .ensures, le-ltb _ _ (c .before .if2 .left), lt-ltb _ _ (c .if3 .taken))
+
+sub-if4 : tie.Need-sub-if4
+sub-if4 c = search needs
+
+returns-4 : tie.Need-returns-4
+unfolding inputOf
+returns-4 c = rw (le-ltb _ _ (c .before .before .before .before .if1 .left), ← c .before .before .before .file-length .ensures, le-ltb _ _ (c .before .before .if2 .left), le-ltb _ _ (c .before .if3 .left), lt-ltb _ _ (c .if4 .taken))
+
+add-replies-whole : tie.Need-add-replies-whole
+add-replies-whole c = search needs
+
+replies-whole-requires : tie.Need-replies-whole-requires
+replies-whole-requires c κs = search needs
+
+header-requires : tie.Need-header-requires
+header-requires c κs = search needs
+
+returns-5 : tie.Need-returns-5
+unfolding inputOf
+returns-5 c = rw (le-ltb _ _ (c .before .before .before .before .before .before .before .if1 .left), ← c .before .before .before .before .before .before .file-length .ensures, le-ltb _ _ (c .before .before .before .before .before .if2 .left), le-ltb _ _ (c .before .before .before .before .if3 .left), le-ltb _ _ (c .before .before .before .if4 .left), ← c .before .before .replies-whole .ensures, c .before .if5 .taken, c .header .ensures)
+
+returns-6 : tie.Need-returns-6
+unfolding inputOf
+returns-6 c = rw (le-ltb _ _ (c .before .before .before .before .before .before .if1 .left), ← c .before .before .before .before .before .file-length .ensures, le-ltb _ _ (c .before .before .before .before .if2 .left), le-ltb _ _ (c .before .before .before .if3 .left), le-ltb _ _ (c .before .before .if4 .left), ← c .before .replies-whole .ensures, c .if5 .left)
+
+pub parse-spec : {M : Type 1} → statement M
+parse-spec =
+    tie.close
+    (tie.spec
+    returns
+    file-length-requires
+    returns-2
+    add-if3
+    returns-3
+    sub-if4
+    returns-4
+    add-replies-whole
+    replies-whole-requires
+    header-requires
+    returns-5
+    returns-6)

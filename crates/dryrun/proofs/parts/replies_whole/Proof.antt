@@ -1,0 +1,82 @@
+-- What is left to look at answers for the whole. Assumes nothing.
+use mathlib.Core.Path.{_≡_, refl, sym, _∙_}
+use Prim.Native.Nat.{_<_}
+use lib.ListN.{length}
+use Rattle.dryrun.specs.Parts.{wholeBy, wholeReplies}
+use Rattle.dryrun.proofs.Whole.{whole-step}
+use borrow.Author.Needs.{needs}
+use Rattle.dryrun.proofs.parts.replies_whole.Statement.{statement}
+use Rattle.dryrun.proofs.parts.replies_whole.Tie as tie
+
+abbrev Inv-loop : tie.InvT-loop
+Inv-loop input from at₀ left₀ at left = wholeReplies (length input) input from ≡ wholeReplies left input at
+
+abbrev μ-loop : tie.MeasureT-loop
+μ-loop input from at₀ left₀ at left = left
+
+loop-holds : tie.Need-loop-holds Inv-loop μ-loop
+loop-holds c = refl
+
+sub-left : tie.Need-sub-left Inv-loop μ-loop
+sub-left c = search needs
+
+reply-at-requires : tie.Need-reply-at-requires Inv-loop μ-loop
+reply-at-requires c κs = search needs
+
+enum-told : tie.Need-enum-told Inv-loop μ-loop
+enum-told c = search needs
+
+returns : tie.Need-returns Inv-loop μ-loop
+unfolding wholeBy
+returns c =
+    let loop = c .before .before .before .before .loop in
+    let some : 0 < loop .left = search needs in
+    sym (loop .inv ∙ (whole-step (loop .left) _ (loop .at) some ∙ rw (← c .before .before .reply-at .ensures, c .enum-told .given .1)))
+
+enum-known-found : tie.Need-enum-known-found Inv-loop μ-loop
+enum-known-found c = search needs
+
+loop-less : tie.Need-loop-less Inv-loop μ-loop
+loop-less c = search needs
+
+loop-again : tie.Need-loop-again Inv-loop μ-loop
+unfolding wholeBy
+loop-again c =
+    let loop = c .before .before .before .before .before .loop in
+    let some : 0 < loop .left = search needs in
+    loop .inv ∙ (whole-step (loop .left) _ (loop .at) some ∙ rw (← c .before .before .before .reply-at .ensures, c .before .found .given .1))
+
+enum-told-2 : tie.Need-enum-told-2 Inv-loop μ-loop
+enum-told-2 c = search needs
+
+returns-2 : tie.Need-returns-2 Inv-loop μ-loop
+unfolding wholeBy
+returns-2 c =
+    let loop = c .before .before .before .before .loop in
+    let some : 0 < loop .left = search needs in
+    sym (loop .inv ∙ (whole-step (loop .left) _ (loop .at) some ∙ rw (← c .before .before .reply-at .ensures, c .enum-told2 .given .1)))
+
+returns-3 : tie.Need-returns-3 Inv-loop μ-loop
+unfolding wholeReplies
+returns-3 c =
+    let loop = c .before .loop in
+    let none : loop .left ≡ 0 = search needs in
+    sym (rw none at (loop .inv))
+
+pub replies-whole-spec : {M : Type 1} → statement M
+replies-whole-spec =
+    tie.close
+    (tie.spec
+    Inv-loop
+    μ-loop
+    loop-holds
+    sub-left
+    reply-at-requires
+    enum-told
+    returns
+    enum-known-found
+    loop-less
+    loop-again
+    enum-told-2
+    returns-2
+    returns-3)

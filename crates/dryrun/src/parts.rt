@@ -1,0 +1,102 @@
+// The input: a byte whether step 1 is wanted, two bytes poll limit, a byte RESTORE_CFG code, four bytes file length, the file, then
+// replies, each a kind byte, a length byte and the bytes. Numbers are lowest byte first.
+use crate::Found;
+use crate::Header;
+use crate::Input;
+use session::Settings;
+ghost use mathlib.Core.Path.{_≡_};
+ghost use Prim.Native.Nat.{_≤_};
+ghost use lib.ListN.{length};
+ghost use Rattle.dryrun.specs.Parts.{pair, fileLength, headerOf, foundAt, wholeReplies, inputOf};
+
+// What stands at a place of the input.
+pub fn reply_at(input: &[u8], at: usize) -> Found
+    ensures { λ r. ⌜ r ≡ foundAt (now (input .entry)) at ⌝ }
+{
+    let n = input.len();
+    if n <= at {
+        return Found::End;
+    }
+    if n - at < 2 {
+        return Found::Part;
+    }
+    let count = input[at + 1] as usize;
+    if n - at - 2 < count {
+        Found::Part
+    } else {
+        Found::Reply(input[at], at + 2, at + 2 + count)
+    }
+}
+
+// Whether the replies from a place on are whole. No input has more replies than bytes.
+fn replies_whole(input: &[u8], from: usize) -> bool
+    ensures { λ r. ⌜ r ≡ wholeReplies (length (now (input .entry))) (now (input .entry)) from ⌝ }
+{
+    let mut at = from;
+    let mut left = input.len();
+    while 0 < left {
+        left -= 1;
+        let found = reply_at(input, at);
+        match found {
+            Found::End => return true,
+            Found::Reply(_, _, end) => at = end,
+            Found::Part => return false,
+        }
+    }
+    true
+}
+
+// Two bytes, lowest first.
+fn two(a: u8, b: u8) -> u16
+    ensures { λ r. ⌜ r ≡ pair a b ⌝ }
+{
+    a as u16 + 256 * (b as u16)
+}
+
+fn file_length(input: &[u8]) -> usize
+    requires { ⌜ 8 ≤ length (now input) ⌝ }
+    ensures { λ r. ⌜ r ≡ fileLength (now (input .entry)) ⌝ }
+{
+    let low = two(input[4], input[5]);
+    let high = two(input[6], input[7]);
+    low as usize + 65536 * (high as usize)
+}
+
+fn header(input: &[u8], file: usize) -> Header
+    requires { ⌜ (8 ≤ length (now input)) × (file ≤ 65600) ⌝ }
+    ensures { λ r. ⌜ r ≡ headerOf (now (input .entry)) file ⌝ }
+{
+    Header {
+        settings: Settings {
+            wanted: 0 < input[0],
+            limit: two(input[1], input[2]),
+            restore: input[3],
+        },
+        behind: 8 + file,
+    }
+}
+
+// Room for a file of 65,600 bytes and 200,000 bytes of replies.
+pub fn parse(input: &[u8]) -> Input
+    ensures { λ r. ⌜ r ≡ inputOf (now (input .entry)) ⌝ }
+{
+    let n = input.len();
+    if n < 8 {
+        return Input::CutShort;
+    }
+    let file = file_length(input);
+    if 65600 < file {
+        return Input::TooLong;
+    }
+    if n < 8 + file {
+        return Input::CutShort;
+    }
+    if 200000 < n - 8 - file {
+        return Input::TooLong;
+    }
+    if replies_whole(input, 8 + file) {
+        Input::Whole(header(input, file))
+    } else {
+        Input::CutShort
+    }
+}

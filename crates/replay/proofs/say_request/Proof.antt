@@ -1,0 +1,39 @@
+-- What is written lies within the buffer. Assumes nothing.
+use mathlib.Core.Path.{sym}
+use native.Mathlib.Omega.{arith}
+use lib.Seq.{length-take-le}
+use Rattle.text.proofs.Laws.{puts-within, puts-length}
+use borrow.Author.Needs.{needs}
+use Rattle.replay.proofs.say_request.Statement.{statement}
+use Rattle.replay.proofs.say_request.Tie as tie
+
+put-request-requires : tie.Need-put-request-requires
+put-request-requires c κs = search needs
+
+array-share-prefix-line : tie.Need-array-share-prefix-line
+array-share-prefix-line c = omega (arith, puts-within (c .put-request .ensures) (omega arith), puts-length (c .put-request .ensures))
+
+slice-aggregate-write-all : tie.Need-slice-aggregate-write-all
+slice-aggregate-write-all c =
+    let put = c .before .put-request in
+    sym (length-take-le (put .result) (put .last .0) (omega (arith, puts-within (put .ensures) (omega arith), puts-length (put .ensures))))
+
+write-all-requires : tie.Need-write-all-requires
+write-all-requires c κs = search needs
+
+returns : tie.Need-returns
+returns c = search needs
+
+returns-2 : tie.Need-returns-2
+returns-2 c = search needs
+
+pub say-request-spec : {M : Type 1} → statement M
+say-request-spec =
+    tie.close
+    (tie.spec
+    put-request-requires
+    array-share-prefix-line
+    slice-aggregate-write-all
+    write-all-requires
+    returns
+    returns-2)
