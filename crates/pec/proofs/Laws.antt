@@ -14,13 +14,13 @@ use Rattle.pec.specs.Lent.{IsTable, stepWith, runWith}
 
 -- ---- a register is a byte
 
-taken-off-lt : (top : Bool) → cond top 7 0 < 256
-taken-off-lt true = lit< tt
-taken-off-lt false = lit< tt
+either-lt : (top : Bool) (a b : ℕ) → a < 256 → b < 256 → cond top a b < 256
+either-lt true a b g h = g
+either-lt false a b g h = h
 
 shift-lt : (c : ℕ) → shift c < 256
 unfolding shift
-shift-lt c = xor-lt 8 (2 * c % 256) (cond (topBit c) 7 0) (omega arith) (taken-off-lt (topBit c))
+shift-lt c = xor-lt 8 (2 * c % 256) _ (omega arith) (either-lt (topBit c) _ _ (lit< tt) (lit< tt))
 
 shifts-lt : (n c : ℕ) → c < 256 → shifts n c < 256
 unfolding shifts
@@ -33,7 +33,7 @@ remainder-lt b = shifts-lt 7 (shift b) (shift-lt b)
 
 pub step-lt : (c b : ℕ) → step c b < 256
 unfolding step
-step-lt c b = remainder-lt (bitXor c b)
+step-lt c b = remainder-lt _
 
 pub pecFrom-lt : (c : ℕ) (bs : List ℕ) → c < 256 → pecFrom c bs < 256
 unfolding pecFrom
