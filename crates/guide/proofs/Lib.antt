@@ -19,3 +19,4 @@ pub mod LineBytes
 pub mod Marks
 pub mod OfText
 pub mod Examples
+pub mod Clearing

@@ -5,3 +5,4 @@ pub mod Guide
 pub mod Matched
 pub mod Statements
 pub mod Examples
+pub mod Cleared
