@@ -20,7 +20,7 @@ use Rattle.guide.specs.declared.Polled.{Polled}
 use Rattle.guide.specs.declared.Polled.the-variants.{Busy, Passed, Failed}
 use Rattle.guide.specs.Judged.{polledOf, banksRight}
 use Rattle.guide.specs.Plan.{Reply, Mark, Plan, done, requests}
-use Rattle.guide.specs.Guide.{hear, put, gate, step1, step2, lines, polled, polls, step4, step5, crcIn, verify, guide, writeLinesOf, guideFor}
+use Rattle.guide.specs.Guide.{hear, put, gate, step1, step2, lines, polled, polls, step4, step5, crcIn, verify, step6, guide, writeLinesOf, guideFor}
 use Rattle.guide.specs.Statements.{Bounded}
 use Rattle.guide.proofs.FileFacts.{FileFacts, lines-are}
 
@@ -108,11 +108,14 @@ module _ (c : ℕ) (rest : Plan) (f : AtMost c rest) where
   unfolding step1
   step1-most = weaken _ (omega arith) (put-most _ _ _ _ λ _. put-most _ _ _ _ λ _. put-most _ _ _ _ λ _. put-most c _ _ _ λ _. f)
 
+step6-most : (file : Summary) (restore : ℕ) → AtMost (3 * file .configs) (step6 file restore)
+step6-most file restore = weaken (3 * file .configs) (omega arith) (verify-most file restore _ _)
+
 module _ (file : Summary) (ls : List Line) (wanted : Bool) (limit restore : ℕ) (e : file .lines ≡ 4 + length ls) where
   guide-most : AtMost (file .lines + limit + 3 * file .configs + 9) (guide file ls wanted limit restore)
   unfolding guide
   guide-most =
-      let checked = verify-most file restore (file .configs) 0 in
+      let checked = step6-most file restore in
       let written = lines-most _ _ (step4-most _ _ (step5-most _ _ checked (file .configs)) limit) 5 ls in
       let judged = step2-most _ _ written file in
       cond-most _ wanted (weaken _ (omega arith) (step1-most _ _ judged)) (weaken _ (omega arith) judged)
