@@ -82,7 +82,7 @@ digits-tell (suc n) v w g h f =
     = digits-tell n (v / 16) (w / 16) (omega arith) (omega arith) (λ b k. sym (digit-on v b) ∙ f (suc b) (omega arith) ∙ digit-on w b) in
     omega arith
 
-word-small : (k n : ℕ) → k ≤ n → banksWord k < 16 ^ n
+pub word-small : (k n : ℕ) → k ≤ n → banksWord k < 16 ^ n
 unfolding banksWord
 word-small zero n h = one-le-pow n 16 (omega arith)
 word-small (suc k) zero h = absurd (let y : ⊥ = omega arith in y)
@@ -105,7 +105,7 @@ word-from (suc k) zero h = absurd (let y : ⊥ = omega arith in y)
 word-from (suc k) (suc b) h = digit-on (banksWord (suc k)) b ∙ rw (word-on k) (word-from k b (omega arith))
 
 module _ (k : ℕ) (few : k ≤ 8) where
-  word-are : BanksAre k (banksWord k)
+  pub word-are : BanksAre k (banksWord k)
   unfolding bankIn
   word-are = record { reported = λ b h. word-below k b h; unused = λ b h g. word-from k b h }
 

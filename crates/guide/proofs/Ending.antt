@@ -56,7 +56,7 @@ module _ (text : List ℕ) (wanted : Bool) (limit restore : ℕ) (rs : List Repl
         unused = right-are (file .configs) banks (few-configs text) right .unused;
       })
 
-  leading : (d : DoneWhen text wanted limit restore rs) → Leads (guideFor text wanted limit restore)
+  pub leading : (d : DoneWhen text wanted limit restore rs) → Leads (guideFor text wanted limit restore)
       (opening wanted (d .matched .first) (d .matched .counter) (d .matched .identity) (d .matched .flag) (d .matched .revision)
       ++ (heard3 ls
       ++ (wrote (pointTo 0x7E 0x00) ∷ (heard4 (d .busy)

@@ -16,7 +16,7 @@ use Rattle.image.specs.Says.{idOf, fileKind, fileConfigs, idLine, summar
 use Rattle.image.specs.Tests.{tooFew, fitsNone}
 use Rattle.image.specs.Check.{first, checkOf}
 use Rattle.image.specs.Walk.{start, factsFrom}
-use Rattle.image.specs.Holds.{Holds, Writes, Sound}
+use Rattle.image.specs.Holds.{Holds, BurnLast, Writes, Sound}
 use Rattle.image.proofs.Places.{place-from, configs-le}
 use Rattle.image.proofs.Counting.{count-is}
 use Rattle.image.proofs.Eight.{eight-at}
@@ -43,19 +43,37 @@ holds-of {s} p = ended (factsFrom start (linesOf s)) refl (told-first start (lin
     ended (Whole g) w e = good s g w
     ended (Bad r) w e = refused r e
 
-pub writes : (s : List ℕ) → checkOf s .answer ≡ Accepted → Writes s (checkOf s .summary)
+-- behind the four lines of the header
+pub held-writes : (s : List ℕ) → checkOf s .answer ≡ Accepted → Holds s (summaryOf s .first) 5 (drop 4 (saysOf (linesOf s)))
 unfolding tooFew summaryOf
-writes s e =
+held-writes s e =
     let p = tests-of s e in
     let ls = saysOf (linesOf s) in
     let size : length ls ≡ length (linesOf s) = says-length (linesOf s) in
     let many : 13 ≤ length (linesOf s) = ltb-false (length (linesOf s)) 13 (p .many) in
+    rw (place-from 4 s) at (holds-drop s 4 ls 0 1 (omega arith) (holds-of p))
+
+-- the burn is the last of them, and no other
+pub burn-writes : (s : List ℕ) → checkOf s .answer ≡ Accepted → BurnLast (drop 4 (saysOf (linesOf s)))
+unfolding tooFew
+burn-writes s e =
+    let p = tests-of s e in
+    let ls = saysOf (linesOf s) in
+    let size : length ls ≡ length (linesOf s) = says-length (linesOf s) in
+    let many : 13 ≤ length (linesOf s) = ltb-false (length (linesOf s)) 13 (p .many) in
+    burn-drop 4 ls (omega arith) (burns ls (omega arith) (burn-amiss (linesOf s) (omega arith) ∙ p .burn))
+
+pub writes : (s : List ℕ) → checkOf s .answer ≡ Accepted → Writes s (checkOf s .summary)
+unfolding tooFew summaryOf
+writes s e =
+    let ls = saysOf (linesOf s) in
+    let many : 13 ≤ length (linesOf s) = ltb-false (length (linesOf s)) 13 (tests-of s e .many) in
     rw (says-of s e)
     (record {
       lines = drop 4 ls;
-      counted = omega (arith, length-drop 4 ls);
-      holds = rw (place-from 4 s) at (holds-drop s 4 ls 0 1 (omega arith) (holds-of p));
-      burns = burn-drop 4 ls (omega arith) (burns ls (omega arith) (burn-amiss (linesOf s) (omega arith) ∙ p .burn));
+      counted = omega (arith, length-drop 4 ls, says-length (linesOf s));
+      holds = held-writes s e;
+      burns = burn-writes s e;
     })
 
 -- an identifier is one digit

@@ -1,0 +1,87 @@
+-- A name for the rest of the guide from each request on, the last request first, so that a held state can be said to stand there.
+-- Assumes nothing.
+use mathlib.Core.Path.{_≡_, refl}
+use mathlib.Core.List.{List, [], _∷_}
+use mathlib.Core.Bool.{cond}
+use Prim.Native.Nat.{ℕ, _+_}
+use lib.Dec.{eqb}
+use Rattle.counts.specs.Counts.{configNumber}
+use Rattle.line.specs.declared.Line.{Line}
+use Rattle.image.specs.declared.Summary.{Summary}
+use Rattle.bus.specs.Bus.{writeOf, wordBytes, pointTo, readData, readBlock}
+use Rattle.guide.specs.declared.Verdict.the-variants.{Banks, Mismatch}
+use Rattle.guide.specs.Plan.{Plan, done, fileLine}
+use Rattle.guide.specs.Judged.{cleared, fitOf, banksRight}
+use Rattle.guide.specs.Guide.{put, write, read, step1, gate, step2, lineRequest, lines, polls, step4, step5, idIn, crcIn, verify, step6, guide}
+use Rattle.session.specs.declared.Settings.{Settings}
+
+module _ (file : Summary) (ls : List Line) (S : Settings) where
+  -- step 6, for configuration N, with so many left behind it
+  unfoldable pub crcRead : ℕ → ℕ → Plan
+  crcRead left N =
+      read readData λ crc. cond (eqb crc (crcIn file N)) (verify file (S .restore) left (N + 1)) (done (Mismatch (configNumber N)))
+
+  unfoldable pub crcAt : ℕ → ℕ → Plan
+  crcAt left N = write (pointTo 0x94 0x00) (crcRead left N)
+
+  unfoldable pub restore : ℕ → ℕ → Plan
+  restore left N = write (writeOf (S .restore) (idIn file N ∷ [])) (crcAt left N)
+
+  -- step 5
+  unfoldable pub banksRead : Plan
+  banksRead = read readData λ banks. cond (banksRight (file .configs) banks) (step6 file (S .restore)) (done Banks)
+
+  unfoldable pub banksAt : Plan
+  banksAt = write (pointTo 0x7F 0x00) banksRead
+
+  -- step 4
+  unfoldable pub statusRead : ℕ → Plan
+  statusRead left = polls left banksAt
+
+  unfoldable pub statusAt : Plan
+  statusAt = write (pointTo 0x7E 0x00) (statusRead (S .limit))
+
+  -- step 3, from line i on
+  unfoldable pub linesFrom : ℕ → List Line → Plan
+  linesFrom i more = lines i more statusAt
+
+  unfoldable pub lineOut : ℕ → Line → List Line → Plan
+  lineOut i l more = put (fileLine i) (lineRequest l) λ _. linesFrom (i + 1) more
+
+  -- step 2
+  unfoldable pub revisionRead : ℕ → ℕ → ℕ → Plan
+  revisionRead counter identity flag =
+      read (readBlock 0xAE) λ revision.
+      gate (fitOf (file .kind) (file .identity) (file .configs) 0 counter identity flag revision) (linesFrom 5 ls)
+
+  unfoldable pub flagRead : ℕ → ℕ → Plan
+  flagRead counter identity = read readData λ flag. revisionRead counter identity flag
+
+  unfoldable pub flagAt : ℕ → ℕ → Plan
+  flagAt counter identity = write (pointTo 0x87 0xBD) (flagRead counter identity)
+
+  unfoldable pub identityRead : ℕ → Plan
+  identityRead counter = read (readBlock 0xAD) λ identity. flagAt counter identity
+
+  unfoldable pub counterRead : Plan
+  counterRead = read readData λ counter. identityRead counter
+
+  unfoldable pub counterAt : Plan
+  counterAt = write (pointTo 0x35 0x00) counterRead
+
+  -- step 1
+  unfoldable pub trimDo : Plan
+  trimDo = write (writeOf 0xE7 (0x02 ∷ 0x00 ∷ [])) counterAt
+
+  unfoldable pub trimWrite : ℕ → Plan
+  trimWrite w = write (writeOf 0xC5 (wordBytes (cleared w))) trimDo
+
+  unfoldable pub trimRead : Plan
+  trimRead = read readData λ w. trimWrite w
+
+  unfoldable pub trimAt : Plan
+  trimAt = write (pointTo 0xA2 0x00) trimRead
+
+  pub guide-is : guide file ls (S .wanted) (S .limit) (S .restore) ≡ cond (S .wanted) trimAt counterAt
+  unfolding guide step1 step2 step4 step5 trimAt trimRead trimWrite trimDo counterAt counterRead identityRead flagAt flagRead revisionRead linesFrom statusAt statusRead banksAt banksRead
+  guide-is = refl

@@ -1,0 +1,54 @@
+-- The settings that are allowed, by their values; and a refused start puts nothing out, whatever follows. Assumes nothing.
+use mathlib.Core.Path.{_≡_, refl}
+use mathlib.Core.Bool.{true, false, not, true≢false}
+use mathlib.Core.List.{List, [], _∷_, List·Memᴰ, List·Memᴰ·head, List·Memᴰ·tail}
+use Prim.Native.Nat.{ℕ}
+use lib.Dec.{leb}
+use borrow.Author.Tests.{leb-true, not-true}
+use Rattle.line.proofs.Basics.{and-true}
+use Rattle.bus.specs.Bus.{noRequest, reserved}
+use Rattle.guide.specs.declared.Verdict.{Verdict}
+use Rattle.guide.specs.Plan.{Reply}
+use Rattle.session.specs.declared.Settings.{Settings}
+use Rattle.session.specs.Moves.{overOf}
+use Rattle.session.specs.Sound.{all, settingTests, allowedOf}
+use Rattle.session.specs.Begin.{freshOf, refusedOf}
+use Rattle.session.specs.Reply.{stageOf, replyOf}
+use Rattle.demands.specs.Runs.{putOut, sent}
+use Rattle.demands.specs.Headline.{Allowed}
+
+abbrev codes : List ℕ
+codes = 0xC5 ∷ 0xC6 ∷ 0xC7 ∷ 0xE7 ∷ 0xAD ∷ 0xAE ∷ []
+
+reserved-codes : (c : ℕ) → List·Memᴰ c codes → reserved c ≡ true
+unfolding reserved
+reserved-codes c (List·Memᴰ·head e) = rw e
+reserved-codes c (List·Memᴰ·tail (List·Memᴰ·head e)) = rw e
+reserved-codes c (List·Memᴰ·tail (List·Memᴰ·tail (List·Memᴰ·head e))) = rw e
+reserved-codes c (List·Memᴰ·tail (List·Memᴰ·tail (List·Memᴰ·tail (List·Memᴰ·head e)))) = rw e
+reserved-codes c (List·Memᴰ·tail (List·Memᴰ·tail (List·Memᴰ·tail (List·Memᴰ·tail (List·Memᴰ·head e))))) = rw e
+reserved-codes c (List·Memᴰ·tail (List·Memᴰ·tail (List·Memᴰ·tail (List·Memᴰ·tail (List·Memᴰ·tail (List·Memᴰ·head e)))))) = rw e
+
+module _ (S : Settings) (e : allowedOf S ≡ true) where
+  tests : (leb 1 (S .limit) ≡ true) × (leb (S .limit) 10000 ≡ true) × (reserved (S .restore) ≡ false)
+  unfolding allowedOf settingTests all
+  tests =
+      let p = and-true (leb 1 (S .limit)) _ e in
+      let q = and-true (leb (S .limit) 10000) _ (p .1) in
+      (p .0, q .0, not-true _ (and-true (not (reserved (S .restore))) true (q .1) .0))
+
+  pub not-reserved : reserved (S .restore) ≡ false
+  not-reserved = tests .2
+
+  pub allowed-is : Allowed S
+  allowed-is =
+      record {
+        some = leb-true 1 (S .limit) (tests .0);
+        few = leb-true (S .limit) 10000 (tests .1);
+        code = λ m. let x = reserved-codes (S .restore) m in true≢false (rw x at not-reserved);
+      }
+
+pub refused-sends : (S : Settings) (text : List ℕ) (v : Verdict) (rs : List Reply) → sent text (refusedOf S v) rs ≡ []
+unfolding refusedOf freshOf overOf noRequest putOut sent replyOf stageOf
+refused-sends S text v [] = refl
+refused-sends S text v (r ∷ rs) = refused-sends S text v rs

@@ -1,0 +1,67 @@
+-- A write line goes out as it stands, and the last line of a file is C0 E7 08 00 DA. Assumes nothing.
+use mathlib.Core.Path.{_≡_, refl, ap, _∙_}
+use mathlib.Core.Logic.{inl, inr}
+use mathlib.Core.Bool.{true, false}
+use mathlib.Core.List.{List, [], _∷_}
+use Prim.Native.Nat.{ℕ, _+_, _-_, _≤_}
+use native.Mathlib.Omega.{arith}
+use lib.Dec.{eqb}
+use lib.ListN.{length, drop, getD, length-append, length-take}
+use borrow.Author.Tests.{eqb-true}
+use Rattle.line.specs.Reading.{lineOf}
+use Rattle.line.specs.Form.{Row, identity, revision, third, fourth, two, four, LineForm}
+use Rattle.line.proofs.Basics.{and-true}
+use Rattle.image.specs.Meets.{BurnBytes}
+use Rattle.bus.specs.declared.Request.{Request}
+use Rattle.bus.specs.Bus.{eight, framed}
+use Rattle.guide.specs.Guide.{lineData, lineRequest}
+use Rattle.guide.specs.Statements.{sameBytes, burnBytes}
+use Rattle.guide.proofs.LineBytes.{line-spelt}
+use Rattle.demands.specs.Headline.{asItStands, burn}
+
+pub same-bytes : (a b : List ℕ) → sameBytes a b ≡ true → a ≡ b
+unfolding sameBytes
+same-bytes [] [] e = refl
+same-bytes [] (y ∷ b) e = cc
+same-bytes (x ∷ a) [] e = cc
+same-bytes (x ∷ a) (y ∷ b) e =
+    let p = and-true (eqb x y) (sameBytes a b) e in
+    let q : x ≡ y = eqb-true x y (p .0) in
+    let r : a ≡ b = same-bytes a b (p .1) in
+    cc
+
+-- a write line has two data bytes or four; two, where it commands
+counted : {n tag command count : ℕ} → Row n tag command count → 5 ≤ n → (count ≤ 4) × (command ≡ 0xE7 → count ≡ 2)
+counted identity h = absurd (let y : ⊥ = omega arith in y)
+counted revision h = absurd (let y : ⊥ = omega arith in y)
+counted (third count f g) h = absurd (let y : ⊥ = omega arith in y)
+counted (fourth count f g) h = absurd (let y : ⊥ = omega arith in y)
+counted (two n command k e) h = (omega arith, λ f. refl)
+counted (four n command k (inl e)) h = (omega arith, λ f. absurd (let y : ⊥ = omega arith in y))
+counted (four n command k (inr e)) h = (omega arith, λ f. absurd (let y : ⊥ = omega arith in y))
+
+abbrev writes : List ℕ → ℕ → Request
+writes bs used = record { bytes = bs; used = used; reads = false }
+
+module _ (n : ℕ) (v : List ℕ) (h : 5 ≤ n) (f : LineForm n v) where
+  size : length v ≡ 5 + length (f .content)
+  size = ap length (f .bytes) ∙ simp length-append (omega arith)
+
+  used-is : lineRequest (lineOf v) .used ≡ length v - 2
+  unfolding lineRequest lineData framed lineOf
+  used-is = simp length-take (omega (arith, size, counted (f .row) h .0))
+
+  pub line-stands : lineRequest (lineOf v) ≡ asItStands v
+  unfolding lineRequest framed
+  line-stands =
+      ap (λ (bs : List ℕ). writes bs (lineRequest (lineOf v) .used)) (line-spelt n v h f .own)
+      ∙ ap (λ (u : ℕ). writes (eight (drop 2 v)) u) used-is
+
+  pub burn-stands : BurnBytes v → asItStands v ≡ burn
+  unfolding eight
+  burn-stands b =
+      let e : getD v 3 0 ≡ f .command = ap (λ (x : List ℕ). getD x 3 0) (f .bytes) in
+      let c : f .command ≡ 0xE7 = cc (b .command) in
+      let u : length v - 2 ≡ 5 = omega (arith, size, counted (f .row) h .1 c) in
+      let s : eight (drop 2 v) ≡ eight burnBytes = same-bytes _ _ (line-spelt n v h f .burn b) in
+      ap (λ (bs : List ℕ). writes bs (length v - 2)) s ∙ ap (λ (k : ℕ). writes (eight burnBytes) k) u
