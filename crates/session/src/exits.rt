@@ -1,4 +1,4 @@
-// What every call ends in: a request is put out, a verdict, the refusal of the state, or what stood before.
+// What every call ends in: a request is put out, a verdict, or the refusal of the state.
 use crate::Answer;
 use crate::Handed;
 use crate::Position;
@@ -10,7 +10,7 @@ use bus::Request;
 use guide::Verdict;
 ghost use mathlib.Core.Path.{_≡_};
 ghost use Prim.Native.Nat.{_<_};
-ghost use Rattle.session.specs.Moves.{withStage, withPosition, putOf, endOf, badOf, overOf};
+ghost use Rattle.session.specs.Moves.{withStage, withPosition, putOf, endOf, badOf};
 
 impl Session {
     // The same session with this request in hand at this stage.
@@ -72,17 +72,6 @@ impl Session {
             session: self,
             request: Bus::none(),
             answer: Answer::BadState,
-        }
-    }
-
-    // After a verdict: the same verdict, the same state.
-    pub(crate) fn over(self, verdict: Verdict) -> Handed
-        ensures { λ r. ⌜ r ≡ overOf self verdict ⌝ }
-    {
-        Handed {
-            session: self,
-            request: Bus::none(),
-            answer: Answer::Over(verdict),
         }
     }
 }

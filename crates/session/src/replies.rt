@@ -1,4 +1,5 @@
 // A reply: a verdict is looked at first, then the held state, then the reply by the request in hand.
+use crate::Answer;
 use crate::Handed;
 use crate::Session;
 use crate::Stage;
@@ -7,7 +8,7 @@ use bus::Bus;
 use bus::Form;
 use guide::Verdict;
 ghost use mathlib.Core.Path.{_≡_};
-ghost use Rattle.session.specs.Moves.{Ready};
+ghost use Rattle.session.specs.Moves.{Ready, overOf};
 ghost use Rattle.session.specs.Reply.{stepOf, repliedOf, replyOf};
 
 impl Session {
@@ -50,6 +51,17 @@ impl Session {
             Form::Misshapen => self.end(Verdict::Shape),
             Form::Miscoded => self.end(Verdict::Pec),
             Form::Good(word) => self.step(text, step, word),
+        }
+    }
+
+    // After a verdict: the same verdict, the same state.
+    pub(crate) fn over(self, verdict: Verdict) -> Handed
+        ensures { λ r. ⌜ r ≡ overOf self verdict ⌝ }
+    {
+        Handed {
+            session: self,
+            request: Bus::none(),
+            answer: Answer::Over(verdict),
         }
     }
 
