@@ -1,3 +1,9 @@
 pub mod Tests
 pub mod Ids
 pub mod Laws
+pub mod SettingsOut
+pub mod Spoiled
+pub mod Every
+pub mod Refusing
+pub mod Fifteen
+pub mod Fourteen

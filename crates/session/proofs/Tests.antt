@@ -1,6 +1,7 @@
 -- Laws of lists of tests, and of a choice by a test. Assumes nothing.
 use Prim.Native.Nat.{ℕ, zero, suc}
 use mathlib.Core.Path.{_≡_, refl, sym, ap}
+use mathlib.Core.Logic.{_⊎_, inl, inr}
 use mathlib.Core.Bool.{Bool, true, false, cond}
 use mathlib.Core.List.{List, [], _∷_}
 use native.Mathlib.Omega.{arith}
@@ -32,6 +33,16 @@ all-last1 false = refl
 pub all-next : (a x : Bool) (bs : List Bool) → a ≡ true → x ≡ all bs → x ≡ all (a ∷ bs)
 unfolding all
 all-next a x bs e h = rw (e, h)
+
+-- the first test of a list that fails, or the others
+pub fails : (a : Bool) (bs : List Bool) → all (a ∷ bs) ≡ false → (a ≡ false) ⊎ (all bs ≡ false)
+unfolding all
+fails true bs e = inr e
+fails false bs e = inl refl
+
+pub none : {A : Type 0} → all [] ≡ false → A
+unfolding all
+none e = let z : _≡_ {A = ℕ} 0 1 = cc in absurd (let y : ⊥ = omega arith in y)
 
 -- a choice by a test whose outcome is known, with nothing rewritten in the two sides
 pub chosen : {A : Type 0} (a b : Bool) (x y : A) → a ≡ b → cond b x y ≡ cond a x y

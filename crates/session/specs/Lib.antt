@@ -5,3 +5,4 @@ pub mod Lines
 pub mod Stages
 pub mod Reply
 pub mod Begin
+pub mod Statements

@@ -1,0 +1,120 @@
+-- Every reply in form ends in one of three exits: a request is put out, a verdict, or the refusal of the state where a write
+-- line is due and what stands at the held place may not go out. Assumes nothing.
+use Prim.Native.Nat.{ℕ, _+_}
+use mathlib.Core.Path.{_≡_, refl}
+use mathlib.Core.Bool.{Bool, true, false, cond}
+use mathlib.Core.List.{List}
+use native.Mathlib.Omega.{arith}
+use lib.Dec.{eqb, ltb}
+use borrow.Author.Tests.{ltb-true, eqb-true, eqb-false}
+use Rattle.counts.specs.declared.LineNumber.{LineNumber}
+use Rattle.counts.specs.declared.ConfigNumber.{ConfigNumber}
+use Rattle.counts.specs.Counts.{lineNumber, configNumber}
+use Rattle.line.specs.declared.Line.{Line}
+use Rattle.line.specs.declared.Step as line
+use Rattle.line.specs.declared.Step.the-variants.{End, Took, Stopped}
+use Rattle.line.specs.Reading.{stepAt}
+use Rattle.image.specs.Says.{isBurn}
+use Rattle.bus.specs.Bus.{pointTo}
+use Rattle.bus.specs.declared.Request.{Request}
+use Rattle.guide.specs.declared.Verdict.{Verdict}
+use Rattle.guide.specs.declared.Verdict.the-variants.{Done, Program, Banks, Mismatch}
+use Rattle.guide.specs.declared.Fit.{Fit}
+use Rattle.guide.specs.declared.Fit.the-variants.{Matched, Fails}
+use Rattle.guide.specs.declared.Polled.{Polled}
+use Rattle.guide.specs.declared.Polled.the-variants.{Busy, Passed, Failed}
+use Rattle.guide.specs.Judged.{polledOf, banksRight}
+use Rattle.guide.specs.Guide.{crcIn}
+use Rattle.guide.proofs.Judging.{judged-exactly}
+use Rattle.session.specs.declared.Session.{Session}
+use Rattle.session.specs.declared.Handed.{Handed}
+use Rattle.session.specs.declared.Step.{Step}
+use Rattle.session.specs.declared.Step.the-variants.{TrimAt, TrimRead, TrimWrite, TrimDo, CounterAt, CounterRead, IdentityRead, FlagAt, FlagRead, RevisionRead, LineOut, StatusAt, StatusRead, BanksAt, BanksRead, Restore, CrcAt, CrcRead}
+use Rattle.session.specs.Moves.{putOf, endOf, badOf}
+use Rattle.session.specs.Lines.{duePutOf, tookOf, dueOf, putLineOf, lineDoneOf}
+use Rattle.session.specs.Stages.{counterDoneOf, identityDoneOf, flagDoneOf, fitDoneOf, fitHeld, revisionDoneOf, pollAgainOf, polledDoneOf, statusDoneOf, restoreOf, banksDoneOf, restoreNextOf, crcDoneOf}
+use Rattle.session.specs.Reply.{stepOf}
+use Rattle.session.specs.Statements.{Due, first, later, Unfit, noLine, early, late}
+
+-- of a choice, by both its sides
+by : {A : Type 0} (Q : A → Type 0) (b : Bool) (x y : A) → (b ≡ true → Q x) → (b ≡ false → Q y) → Q (cond b x y)
+by Q true x y f g = f refl
+by Q false x y f g = g refl
+
+module _ (text : List ℕ) (s : Session) (word : ℕ) (P : Step → Handed → Type 0)
+    (puts : (g : Step) (t : Session) (next : Step) (q : Request) → P g (putOf t next q)) (ends : (g : Step) (v : Verdict) → P g (endOf s v))
+    (bads : (g : Step) (n : LineNumber) → Due s word g n → Unfit text s n → P g (badOf s)) where
+  took-every : (g : Step) (n : LineNumber) → Due s word g n → (l : Line) (next : ℕ) → stepAt n (s .position .place) text ≡ Took l next
+      → P g (tookOf s l next n)
+  unfolding tookOf duePutOf
+  took-every g n d l next e =
+      by (P g) (isBurn l) _ _
+      (λ f. by (P g) (eqb (n .0) (s .file .lines)) _ _ (λ h. puts g _ _ _) (λ h. bads g n d (early l next e f (eqb-false _ _ h))))
+      (λ f. by (P g) (eqb (n .0) (s .file .lines)) _ _ (λ h. bads g n d (late l next e f (eqb-true _ _ h))) (λ h. puts g _ _ _))
+
+  due-every : (g : Step) (n : LineNumber) → Due s word g n → (t : line.Step) → stepAt n (s .position .place) text ≡ t → P g (dueOf s n t)
+  unfolding dueOf
+  due-every g n d End e = bads g n d (noLine (λ l next f. let z : _≡_ {A = ℕ} 0 1 = cc in omega arith))
+  due-every g n d (Took l next) e = took-every g n d l next e
+  due-every g n d (Stopped fault) e = bads g n d (noLine (λ l next f. let z : _≡_ {A = ℕ} 0 1 = cc in omega arith))
+
+  line-every : (g : Step) (n : LineNumber) → Due s word g n → P g (putLineOf text s n)
+  unfolding putLineOf
+  line-every g n d = due-every g n d _ refl
+
+  out-every : P LineOut (lineDoneOf text s)
+  unfolding lineDoneOf
+  out-every =
+      by (P LineOut) (ltb (s .position .line .0) (s .file .lines)) (putLineOf text s (lineNumber (s .position .line .0 + 1)))
+      (putOf s StatusAt (pointTo 0x7E 0x00)) (λ e. line-every LineOut _ (later (ltb-true _ _ e))) (λ e. puts LineOut _ _ _)
+
+  fit-every : (f : Fit) → fitHeld s word ≡ f → P RevisionRead (fitDoneOf text s f)
+  unfolding fitDoneOf fitHeld
+  fit-every Matched e = line-every RevisionRead _ (first (judged-exactly (s .file) (s .position .counter) (s .position .identity) (s .position .flag) word .matches e))
+  fit-every (Fails v) e = ends RevisionRead v
+
+  polled-every : (p : Polled) → P StatusRead (polledDoneOf s p)
+  unfolding polledDoneOf pollAgainOf
+  polled-every Busy =
+      by (P StatusRead) (ltb (s .position .polls + 1) (s .settings .limit)) _ _ (λ e. puts StatusRead _ _ _) (λ e. ends StatusRead Program)
+  polled-every Passed = puts StatusRead _ _ _
+  polled-every Failed = ends StatusRead Program
+
+  restore-every : (g : Step) (N : ConfigNumber) → P g (restoreOf s N)
+  unfolding restoreOf
+  restore-every g N = puts g _ _ _
+
+  banks-every : P BanksRead (banksDoneOf s word)
+  unfolding banksDoneOf
+  banks-every =
+      by (P BanksRead) (banksRight (s .file .configs) word) (restoreOf s (configNumber 0)) (endOf s Banks) (λ e. restore-every BanksRead _)
+      (λ e. ends BanksRead Banks)
+
+  crc-every : P CrcRead (crcDoneOf s word)
+  unfolding crcDoneOf restoreNextOf
+  crc-every =
+      by (P CrcRead) (eqb word (crcIn (s .file) (s .position .config .0))) (restoreNextOf s) (endOf s (Mismatch (s .position .config)))
+      (λ e. by (P CrcRead) (ltb (s .position .config .0 + 1) (s .file .configs)) (restoreOf s (configNumber (s .position .config .0 + 1))) (endOf s Done)
+      (λ f. restore-every CrcRead _) (λ f. ends CrcRead Done))
+      (λ e. ends CrcRead (Mismatch (s .position .config)))
+
+  pub step-every : (g : Step) → P g (stepOf text s g word)
+  unfolding stepOf counterDoneOf identityDoneOf flagDoneOf revisionDoneOf statusDoneOf
+  step-every TrimAt = puts TrimAt _ _ _
+  step-every TrimRead = puts TrimRead _ _ _
+  step-every TrimWrite = puts TrimWrite _ _ _
+  step-every TrimDo = puts TrimDo _ _ _
+  step-every CounterAt = puts CounterAt _ _ _
+  step-every CounterRead = puts CounterRead _ _ _
+  step-every IdentityRead = puts IdentityRead _ _ _
+  step-every FlagAt = puts FlagAt _ _ _
+  step-every FlagRead = puts FlagRead _ _ _
+  step-every RevisionRead = fit-every _ refl
+  step-every LineOut = out-every
+  step-every StatusAt = puts StatusAt _ _ _
+  step-every StatusRead = polled-every (polledOf word)
+  step-every BanksAt = puts BanksAt _ _ _
+  step-every BanksRead = banks-every
+  step-every Restore = puts Restore _ _ _
+  step-every CrcAt = puts CrcAt _ _ _
+  step-every CrcRead = crc-every

@@ -1,0 +1,112 @@
+-- When 15 is given, when 14 is, and what a verdict leaves (document 01, "The session"), said on the values that are held and
+-- without the tests of Sound.antt. No promise cites this page: proofs/ shows each of these. Assumes nothing.
+use Prim.Native.Nat.{ℕ, _+_, _*_, _≤_, _<_}
+use mathlib.Core.Path.{_≡_}
+use mathlib.Core.List.{List}
+use mathlib.Core.Bool.{true, false}
+use lib.ListN.{getD}
+use Rattle.counts.specs.declared.LineNumber.{LineNumber}
+use Rattle.counts.specs.declared.ConfigNumber.{ConfigNumber}
+use Rattle.counts.specs.Counts.{lineNumber, configNumber, configId, lineCount}
+use Rattle.line.specs.declared.Line.{Line}
+use Rattle.line.specs.declared.Step.the-variants.{Took}
+use Rattle.line.specs.Reading.{stepAt}
+use Rattle.image.specs.Says.{isBurn}
+use Rattle.bus.specs.Bus.{noRequest}
+use Rattle.bus.specs.Form.{formOf}
+use Rattle.bus.specs.declared.Form.the-variants.{Good}
+use Rattle.guide.specs.declared.Verdict.{Verdict}
+use Rattle.guide.specs.Matched.{Fits}
+use Rattle.session.specs.declared.Settings.{Settings}
+use Rattle.session.specs.declared.Session.{Session}
+use Rattle.session.specs.declared.Handed.{Handed}
+use Rattle.session.specs.declared.Stage.the-variants.{Open, Ended}
+use Rattle.session.specs.declared.Step.{Step}
+use Rattle.session.specs.declared.Step.the-variants.{RevisionRead, LineOut}
+use Rattle.session.specs.declared.Answer.the-variants.{Over, BadState}
+use Rattle.session.specs.declared.Report.the-variants.{Is}
+use Rattle.session.specs.Reports.{reportOf}
+use Rattle.session.specs.Reply.{replyOf}
+use Rattle.session.specs.Begin.{beginOf}
+
+-- ---- settings
+
+-- the commands that RESTORE_CFG may not be
+pub data OtherCommand : ℕ → Type 0 where
+  c5 : OtherCommand 0xC5
+  c6 : OtherCommand 0xC6
+  c7 : OtherCommand 0xC7
+  e7 : OtherCommand 0xE7
+  ad : OtherCommand 0xAD
+  ae : OtherCommand 0xAE
+
+-- a setting that is out of its range
+pub data SettingOut (S : Settings) : Type 0 where
+  limit : ((1 ≤ S .limit) × (S .limit ≤ 10000) → ⊥) → SettingOut S
+  restore : OtherCommand (S .restore) → SettingOut S
+
+-- ---- 15, before the reply is looked at
+
+pub data Spoiled (s : Session) : Type 0 where
+  setting : SettingOut (s .settings) → Spoiled s
+  -- k is 1 to 8
+  configs : ((1 ≤ s .file .configs) × (s .file .configs ≤ 8) → ⊥) → Spoiled s
+  -- n is 12 + s x k
+  lines : (s .file .lines ≡ lineCount (s .file .kind) (s .file .configs) → ⊥) → Spoiled s
+  -- the line in hand is 5 to n
+  line : ((5 ≤ s .position .line .0) × (s .position .line .0 ≤ s .file .lines) → ⊥) → Spoiled s
+  -- the configuration in hand is under k
+  config : (s .position .config .0 < s .file .configs → ⊥) → Spoiled s
+  -- the polls used are under the limit
+  polls : (s .position .polls < s .settings .limit → ⊥) → Spoiled s
+  -- an identifier is above 15
+  identifier : (N : ℕ) → N < s .file .configs → 15 < getD (s .file .ids) N (configId 0) .0 → Spoiled s
+  -- the request count is over n + poll limit + 3 x k + 9
+  count : s .file .lines + s .settings .limit + 3 * s .file .configs + 9 < s .sent → Spoiled s
+
+-- ---- 15, when a write line is due
+
+-- line 5 is due when the AE reply came in form and none of 23 to 28 applies, and a later one while the line in hand is before n
+pub data Due (s : Session) (word : ℕ) : Step → LineNumber → Type 0 where
+  first : Fits (s .file) (s .position .counter) (s .position .identity) (s .position .flag) word → Due s word RevisionRead (lineNumber 5)
+  later : s .position .line .0 < s .file .lines → Due s word LineOut (lineNumber (s .position .line .0 + 1))
+
+-- the text from the held place is no write line, or the burn and not line n, or line n and not the burn
+pub data Unfit (text : List ℕ) (s : Session) (n : LineNumber) : Type 0 where
+  noLine : ((l : Line) (next : ℕ) → stepAt n (s .position .place) text ≡ Took l next → ⊥) → Unfit text s n
+  early : (l : Line) (next : ℕ) → stepAt n (s .position .place) text ≡ Took l next → isBurn l ≡ true → (n .0 ≡ s .file .lines → ⊥) → Unfit text s n
+  late : (l : Line) (next : ℕ) → stepAt n (s .position .place) text ≡ Took l next → isBurn l ≡ false → n .0 ≡ s .file .lines → Unfit text s n
+
+-- ---- of a reply
+
+module _ (text : List ℕ) (s : Session) (kind : ℕ) (bs : List ℕ) where
+  abbrev handed : Handed
+  handed = replyOf text s kind bs
+
+  -- 15 is given in two places and nowhere else
+  pub data Fifteen (g : Step) : Type 0 where
+    before : Spoiled s → Fifteen g
+    due : (word : ℕ) (n : LineNumber) → formOf (s .hand) kind bs ≡ Good word → Due s word g n → Unfit text s n → Fifteen g
+
+  pub record FifteenExactly : Type 0 where
+    pub only : handed .answer ≡ BadState → (g : Step) × (s .stage ≡ Open g) × Fifteen g
+    pub when : (g : Step) → s .stage ≡ Open g → Fifteen g → handed .answer ≡ BadState
+    -- 15 leaves the state as given, and comes with a request of zeros
+    pub leaves : handed .answer ≡ BadState → (handed .session ≡ s) × (handed .request ≡ noRequest)
+
+  -- a verdict ends the session and comes with a request of zeros; after it, the same verdict, the same state and a request of zeros
+  pub record VerdictStands : Type 0 where
+    pub ends : (v : Verdict) → handed .answer ≡ Over v → (handed .session .stage ≡ Ended v) × (handed .request ≡ noRequest)
+    pub stays : (v : Verdict) → s .stage ≡ Ended v → (handed .answer ≡ Over v) × (handed .session ≡ s) × (handed .request ≡ noRequest)
+
+-- ---- of a beginning
+
+module _ (S : Settings) (text : List ℕ) where
+  -- 14 exactly where a setting is out of its range, whatever the file; with line 0 and N 0
+  pub record FourteenExactly : Type 0 where
+    pub only : (l : LineNumber) (N : ConfigNumber) → reportOf (beginOf S text .answer) ≡ Is 14 l N → SettingOut S
+    pub when : SettingOut S → reportOf (beginOf S text .answer) ≡ Is 14 (lineNumber 0) (configNumber 0)
+
+  -- a refused begin hands back an ended state and a request of zeros
+  unfoldable pub RefusedEnds : Type 0
+  RefusedEnds = (v : Verdict) → beginOf S text .answer ≡ Over v → (beginOf S text .session .stage ≡ Ended v) × (beginOf S text .request ≡ noRequest)
