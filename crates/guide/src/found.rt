@@ -6,6 +6,7 @@ ghost use Prim.Native.Nat.{ℕ, _<_};
 ghost use Rattle.guide.specs.Judged.{polledOf, banksRight};
 
 impl Polled {
+    // Bits above 5 are not judged, and no other bit while bit 0 is clear.
     pub fn of(status: u32) -> Polled
         ensures { λ r. ⌜ r ≡ polledOf status ⌝ }
     {

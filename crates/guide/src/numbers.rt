@@ -6,6 +6,7 @@ ghost use mathlib.Core.Path.{_≡_};
 ghost use Rattle.guide.specs.Numbers.{numberOf, lineOf, configOf};
 
 impl Verdict {
+    // The number of the table of verdicts, or that of the refusal.
     pub fn number(self) -> u8
         ensures { λ r. ⌜ r ≡ numberOf self ⌝ }
     {
@@ -28,6 +29,7 @@ impl Verdict {
         }
     }
 
+    // A refused file's line, and 0 with every other verdict.
     pub fn line(self) -> LineNumber
         ensures { λ r. ⌜ r ≡ lineOf self ⌝ }
     {
@@ -50,6 +52,7 @@ impl Verdict {
         }
     }
 
+    // N is 0 unless the verdict is 31.
     pub fn config(self) -> ConfigNumber
         ensures { λ r. ⌜ r ≡ configOf self ⌝ }
     {

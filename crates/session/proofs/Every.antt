@@ -26,11 +26,12 @@ use Rattle.guide.specs.declared.Polled.the-variants.{Busy, Passed, Failed}
 use Rattle.guide.specs.Judged.{polledOf, banksRight}
 use Rattle.guide.specs.Guide.{crcIn}
 use Rattle.guide.proofs.Judging.{judged-exactly}
+use Rattle.session.specs.declared.Position.{Position}
 use Rattle.session.specs.declared.Session.{Session}
 use Rattle.session.specs.declared.Handed.{Handed}
 use Rattle.session.specs.declared.Step.{Step}
 use Rattle.session.specs.declared.Step.the-variants.{TrimAt, TrimRead, TrimWrite, TrimDo, CounterAt, CounterRead, IdentityRead, FlagAt, FlagRead, RevisionRead, LineOut, StatusAt, StatusRead, BanksAt, BanksRead, Restore, CrcAt, CrcRead}
-use Rattle.session.specs.Moves.{putOf, endOf, badOf}
+use Rattle.session.specs.Moves.{withPosition, withBurned, putOf, endOf, badOf}
 use Rattle.session.specs.Lines.{duePutOf, tookOf, dueOf, putLineOf, lineDoneOf}
 use Rattle.session.specs.Stages.{counterDoneOf, identityDoneOf, flagDoneOf, fitDoneOf, fitHeld, revisionDoneOf, pollAgainOf, polledDoneOf, statusDoneOf, restoreOf, banksDoneOf, restoreNextOf, crcDoneOf}
 use Rattle.session.specs.Reply.{stepOf}
@@ -41,16 +42,34 @@ by : {A : Type 0} (Q : A → Type 0) (b : Bool) (x y : A) → (b ≡ true → Q 
 by Q true x y f g = f refl
 by Q false x y f g = g refl
 
+-- what every request put out keeps of the session before it
+pub record Kept (s t : Session) : Type 0 where
+  pub settings : t .settings ≡ s .settings
+  pub file : t .file ≡ s .file
+  pub sent : t .sent ≡ s .sent
+  pub burned : s .burned ≡ true → t .burned ≡ true
+
+kept : (s : Session) → Kept s s
+kept s = record { settings = refl; file = refl; sent = refl; burned = λ e. e }
+
+kept-moved : (s : Session) (p : Position) → Kept s (withPosition s p)
+unfolding withPosition
+kept-moved s p = record { settings = refl; file = refl; sent = refl; burned = λ e. e }
+
+kept-burned : (s : Session) (p : Position) (b : Bool) → (s .burned ≡ true → b ≡ true) → Kept s (withBurned (withPosition s p) b)
+unfolding withPosition withBurned
+kept-burned s p b f = record { settings = refl; file = refl; sent = refl; burned = f }
+
 module _ (text : List ℕ) (s : Session) (word : ℕ) (P : Step → Handed → Type 0)
-    (puts : (g : Step) (t : Session) (next : Step) (q : Request) → P g (putOf t next q)) (ends : (g : Step) (v : Verdict) → P g (endOf s v))
+    (puts : (g : Step) (t : Session) → Kept s t → (next : Step) (q : Request) → P g (putOf t next q)) (ends : (g : Step) (v : Verdict) → P g (endOf s v))
     (bads : (g : Step) (n : LineNumber) → Due s word g n → Unfit text s n → P g (badOf s)) where
   took-every : (g : Step) (n : LineNumber) → Due s word g n → (l : Line) (next : ℕ) → stepAt n (s .position .place) text ≡ Took l next
       → P g (tookOf s l next n)
   unfolding tookOf duePutOf
   took-every g n d l next e =
       by (P g) (isBurn l) _ _
-      (λ f. by (P g) (eqb (n .0) (s .file .lines)) _ _ (λ h. puts g _ _ _) (λ h. bads g n d (early l next e f (eqb-false _ _ h))))
-      (λ f. by (P g) (eqb (n .0) (s .file .lines)) _ _ (λ h. bads g n d (late l next e f (eqb-true _ _ h))) (λ h. puts g _ _ _))
+      (λ f. by (P g) (eqb (n .0) (s .file .lines)) _ _ (λ h. puts g _ (kept-burned s _ true (λ x. refl)) _ _) (λ h. bads g n d (early l next e f (eqb-false _ _ h))))
+      (λ f. by (P g) (eqb (n .0) (s .file .lines)) _ _ (λ h. bads g n d (late l next e f (eqb-true _ _ h))) (λ h. puts g _ (kept-burned s _ (s .burned) (λ x. x)) _ _))
 
   due-every : (g : Step) (n : LineNumber) → Due s word g n → (t : line.Step) → stepAt n (s .position .place) text ≡ t → P g (dueOf s n t)
   unfolding dueOf
@@ -66,7 +85,7 @@ module _ (text : List ℕ) (s : Session) (word : ℕ) (P : Step → Handed → T
   unfolding lineDoneOf
   out-every =
       by (P LineOut) (ltb (s .position .line .0) (s .file .lines)) (putLineOf text s (lineNumber (s .position .line .0 + 1)))
-      (putOf s StatusAt (pointTo 0x7E 0x00)) (λ e. line-every LineOut _ (later (ltb-true _ _ e))) (λ e. puts LineOut _ _ _)
+      (putOf s StatusAt (pointTo 0x7E 0x00)) (λ e. line-every LineOut _ (later (ltb-true _ _ e))) (λ e. puts LineOut s (kept s) _ _)
 
   fit-every : (f : Fit) → fitHeld s word ≡ f → P RevisionRead (fitDoneOf text s f)
   unfolding fitDoneOf fitHeld
@@ -76,13 +95,13 @@ module _ (text : List ℕ) (s : Session) (word : ℕ) (P : Step → Handed → T
   polled-every : (p : Polled) → P StatusRead (polledDoneOf s p)
   unfolding polledDoneOf pollAgainOf
   polled-every Busy =
-      by (P StatusRead) (ltb (s .position .polls + 1) (s .settings .limit)) _ _ (λ e. puts StatusRead _ _ _) (λ e. ends StatusRead Program)
-  polled-every Passed = puts StatusRead _ _ _
+      by (P StatusRead) (ltb (s .position .polls + 1) (s .settings .limit)) _ _ (λ e. puts StatusRead _ (kept-moved s _) _ _) (λ e. ends StatusRead Program)
+  polled-every Passed = puts StatusRead s (kept s) _ _
   polled-every Failed = ends StatusRead Program
 
   restore-every : (g : Step) (N : ConfigNumber) → P g (restoreOf s N)
   unfolding restoreOf
-  restore-every g N = puts g _ _ _
+  restore-every g N = puts g _ (kept-moved s _) _ _
 
   banks-every : P BanksRead (banksDoneOf s word)
   unfolding banksDoneOf
@@ -100,21 +119,21 @@ module _ (text : List ℕ) (s : Session) (word : ℕ) (P : Step → Handed → T
 
   pub step-every : (g : Step) → P g (stepOf text s g word)
   unfolding stepOf counterDoneOf identityDoneOf flagDoneOf revisionDoneOf statusDoneOf
-  step-every TrimAt = puts TrimAt _ _ _
-  step-every TrimRead = puts TrimRead _ _ _
-  step-every TrimWrite = puts TrimWrite _ _ _
-  step-every TrimDo = puts TrimDo _ _ _
-  step-every CounterAt = puts CounterAt _ _ _
-  step-every CounterRead = puts CounterRead _ _ _
-  step-every IdentityRead = puts IdentityRead _ _ _
-  step-every FlagAt = puts FlagAt _ _ _
-  step-every FlagRead = puts FlagRead _ _ _
+  step-every TrimAt = puts TrimAt s (kept s) _ _
+  step-every TrimRead = puts TrimRead s (kept s) _ _
+  step-every TrimWrite = puts TrimWrite s (kept s) _ _
+  step-every TrimDo = puts TrimDo s (kept s) _ _
+  step-every CounterAt = puts CounterAt s (kept s) _ _
+  step-every CounterRead = puts CounterRead _ (kept-moved s _) _ _
+  step-every IdentityRead = puts IdentityRead _ (kept-moved s _) _ _
+  step-every FlagAt = puts FlagAt s (kept s) _ _
+  step-every FlagRead = puts FlagRead _ (kept-moved s _) _ _
   step-every RevisionRead = fit-every _ refl
   step-every LineOut = out-every
-  step-every StatusAt = puts StatusAt _ _ _
+  step-every StatusAt = puts StatusAt s (kept s) _ _
   step-every StatusRead = polled-every (polledOf word)
-  step-every BanksAt = puts BanksAt _ _ _
+  step-every BanksAt = puts BanksAt s (kept s) _ _
   step-every BanksRead = banks-every
-  step-every Restore = puts Restore _ _ _
-  step-every CrcAt = puts CrcAt _ _ _
+  step-every Restore = puts Restore s (kept s) _ _
+  step-every CrcAt = puts CrcAt s (kept s) _ _
   step-every CrcRead = crc-every

@@ -8,6 +8,7 @@ use native.Mathlib.Omega.{arith}
 use Rattle.counts.specs.declared.LineNumber.{LineNumber}
 use Rattle.bus.specs.Bus.{noRequest}
 use Rattle.bus.specs.Form.{formOf}
+use Rattle.bus.specs.declared.Request.{Request}
 use Rattle.bus.specs.declared.Form.{Form}
 use Rattle.bus.specs.declared.Form.the-variants.{Unanswered, Misshapen, Miscoded, Good}
 use Rattle.guide.specs.declared.Verdict.{Verdict}
@@ -23,7 +24,7 @@ use Rattle.session.specs.Reply.{repliedOf, replyOf}
 use Rattle.session.specs.Statements.{Due, Unfit, Fifteen, before, due, FifteenExactly, VerdictStands}
 use Rattle.session.proofs.Laws.{when-ended, when-open}
 use Rattle.session.proofs.Spoiled.{spoiled-refused, refused-spoiled}
-use Rattle.session.proofs.Every.{step-every}
+use Rattle.session.proofs.Every.{Kept, step-every}
 use Rattle.session.proofs.Refusing.{due-bad}
 
 -- answers of other cases
@@ -46,9 +47,9 @@ module _ (text : List ℕ) (s : Session) (kind : ℕ) (bs : List ℕ) where
     leaves : h .answer ≡ BadState → (h .session ≡ s) × (h .request ≡ noRequest)
     ends : (v : Verdict) → h .answer ≡ Over v → (h .session .stage ≡ Ended v) × (h .request ≡ noRequest)
 
-  put-shown : (g : Step) (t : Session) (next : Step) (q : _) → Shown g (putOf t next q)
+  put-shown : (g : Step) (t : Session) → Kept s t → (next : Step) (q : Request) → Shown g (putOf t next q)
   unfolding putOf
-  put-shown g t next q = record { only = λ e. next-bad e; leaves = λ e. next-bad e; ends = λ v e. next-over e }
+  put-shown g t k next q = record { only = λ e. next-bad e; leaves = λ e. next-bad e; ends = λ v e. next-over e }
 
   end-shown : (g : Step) (v : Verdict) → Shown g (endOf s v)
   unfolding endOf withStage

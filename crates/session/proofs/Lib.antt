@@ -6,4 +6,5 @@ pub mod Spoiled
 pub mod Every
 pub mod Refusing
 pub mod Fifteen
+pub mod Carrying
 pub mod Fourteen

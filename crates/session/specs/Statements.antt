@@ -23,7 +23,7 @@ use Rattle.session.specs.declared.Handed.{Handed}
 use Rattle.session.specs.declared.Stage.the-variants.{Open, Ended}
 use Rattle.session.specs.declared.Step.{Step}
 use Rattle.session.specs.declared.Step.the-variants.{RevisionRead, LineOut}
-use Rattle.session.specs.declared.Answer.the-variants.{Over, BadState}
+use Rattle.session.specs.declared.Answer.the-variants.{Next, Over, BadState}
 use Rattle.session.specs.declared.Report.the-variants.{Is}
 use Rattle.session.specs.Reports.{reportOf}
 use Rattle.session.specs.Reply.{replyOf}
@@ -77,6 +77,17 @@ pub data Unfit (text : List ℕ) (s : Session) (n : LineNumber) : Type 0 where
   early : (l : Line) (next : ℕ) → stepAt n (s .position .place) text ≡ Took l next → isBurn l ≡ true → (n .0 ≡ s .file .lines → ⊥) → Unfit text s n
   late : (l : Line) (next : ℕ) → stepAt n (s .position .place) text ≡ Took l next → isBurn l ≡ false → n .0 ≡ s .file .lines → Unfit text s n
 
+-- ---- what a session is handed on as
+
+-- the count is one more exactly where a request is put out, which is then the one in hand; a burn mark that is set stays set;
+-- settings and what the file says are kept
+pub record Carried (s : Session) (h : Handed) : Type 0 where
+  pub counts : h .answer ≡ Next → (h .session .sent ≡ s .sent + 1) × (h .session .hand ≡ h .request)
+  pub rests : (h .answer ≡ Next → ⊥) → (h .session .sent ≡ s .sent) × (h .session .burned ≡ s .burned)
+  pub burned : s .burned ≡ true → h .session .burned ≡ true
+  pub settings : h .session .settings ≡ s .settings
+  pub file : h .session .file ≡ s .file
+
 -- ---- of a reply
 
 module _ (text : List ℕ) (s : Session) (kind : ℕ) (bs : List ℕ) where
@@ -98,6 +109,9 @@ module _ (text : List ℕ) (s : Session) (kind : ℕ) (bs : List ℕ) where
   pub record VerdictStands : Type 0 where
     pub ends : (v : Verdict) → handed .answer ≡ Over v → (handed .session .stage ≡ Ended v) × (handed .request ≡ noRequest)
     pub stays : (v : Verdict) → s .stage ≡ Ended v → (handed .answer ≡ Over v) × (handed .session ≡ s) × (handed .request ≡ noRequest)
+
+  unfoldable pub CarriesOn : Type 0
+  CarriesOn = Carried s handed
 
 -- ---- of a beginning
 

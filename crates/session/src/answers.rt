@@ -7,6 +7,7 @@ ghost use mathlib.Core.Path.{_≡_};
 ghost use Rattle.session.specs.Reports.{reportOf};
 
 impl Answer {
+    // While a reply is awaited there is no number, since DONE is 0.
     pub fn report(self) -> Report
         ensures { λ r. ⌜ r ≡ reportOf self ⌝ }
     {

@@ -77,6 +77,7 @@ impl Settings {
         Session::fresh(self, Summary::none(), Stage::Ended(verdict), position).over(verdict)
     }
 
+    // Settings come first: a bad setting with a bad file is 14.
     pub fn begin(self, text: &[u8]) -> Handed
         ensures { λ r. ⌜ r ≡ beginOf self (now (text .entry)) ⌝ }
     {

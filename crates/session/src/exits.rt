@@ -40,6 +40,7 @@ impl Session {
         next
     }
 
+    // A request that is handed over is put out, and the reply is judged by it.
     pub(crate) fn put(self, step: Step, request: Request) -> Handed
         requires { ⌜ self .sent < 4294967295 ⌝ }
         ensures { λ r. ⌜ r ≡ putOf self step request ⌝ }
@@ -53,6 +54,7 @@ impl Session {
         }
     }
 
+    // A verdict comes with a request of zeros.
     pub(crate) fn end(self, verdict: Verdict) -> Handed
         ensures { λ r. ⌜ r ≡ endOf self verdict ⌝ }
     {

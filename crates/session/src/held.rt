@@ -9,6 +9,7 @@ ghost use Prim.Native.Nat.{_<_};
 ghost use Rattle.session.specs.Sound.{allowedOf, idsTo, fileSound, heldSound, soundOf};
 
 impl Settings {
+    // Poll limit 1 to 10,000; RESTORE_CFG is none of the six other commands.
     pub fn allowed(self) -> bool
         ensures { λ r. ⌜ r ≡ allowedOf self ⌝ }
     {
@@ -84,6 +85,7 @@ impl Session {
         (self.sent as u64) <= (lines as u64) + (limit as u64) + 3 * (configs as u64) + 9
     }
 
+    // The conditions of 15 that are looked at before the reply.
     pub(crate) fn sound(self) -> bool
         ensures { λ r. ⌜ r ≡ soundOf self ⌝ }
     {

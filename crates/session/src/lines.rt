@@ -57,6 +57,7 @@ impl Session {
         }
     }
 
+    // Line n is the last; step 4 follows.
     pub(crate) fn line_done(self, text: &[u8]) -> Handed
         requires { ⌜ Ready self ⌝ }
         ensures { λ r. ⌜ r ≡ lineDoneOf (now (text .entry)) self ⌝ }

@@ -65,6 +65,7 @@ impl Session {
         }
     }
 
+    // A state with a verdict is not examined; any other is, before the reply is looked at.
     pub fn reply(self, text: &[u8], kind: u8, bytes: &[u8]) -> Handed
         ensures { λ r. ⌜ r ≡ replyOf (now (text .entry)) self kind (now (bytes .entry)) ⌝ }
     {

@@ -14,6 +14,7 @@ ghost use Rattle.session.specs.Moves.{Ready};
 ghost use Rattle.session.specs.Stages.{counterDoneOf, identityDoneOf, flagDoneOf, revisionDoneOf, pollAgainOf, statusDoneOf, restoreOf, banksDoneOf, crcDoneOf};
 
 impl Session {
+    // What step 2 reads is kept until the revision is read: 23 to 28 are tried only then.
     pub(crate) fn counter_done(self, word: u32) -> Handed
         requires { ⌜ Ready self ⌝ }
         ensures { λ r. ⌜ r ≡ counterDoneOf self word ⌝ }
@@ -43,6 +44,7 @@ impl Session {
             .put(Step::RevisionRead, Bus::read(Bus::REVISION, 6))
     }
 
+    // No place of the device is kept free.
     pub(crate) fn revision_done(self, text: &[u8], word: u32) -> Handed
         requires { ⌜ Ready self ⌝ }
         ensures { λ r. ⌜ r ≡ revisionDoneOf (now (text .entry)) self word ⌝ }
@@ -81,6 +83,7 @@ impl Session {
         }
     }
 
+    // Step 5 follows a status that passed.
     pub(crate) fn status_done(self, word: u32) -> Handed
         requires { ⌜ Ready self ⌝ }
         ensures { λ r. ⌜ r ≡ statusDoneOf self word ⌝ }
@@ -107,6 +110,7 @@ impl Session {
             .put(Step::Restore, Bus::write1(self.settings.restore, id.0))
     }
 
+    // Step 6 goes through the configurations from N = 0.
     pub(crate) fn banks_done(self, word: u32) -> Handed
         requires { ⌜ Ready self ⌝ }
         ensures { λ r. ⌜ r ≡ banksDoneOf self word ⌝ }
@@ -118,6 +122,7 @@ impl Session {
         }
     }
 
+    // DONE when all N passed.
     pub(crate) fn crc_done(self, word: u32) -> Handed
         requires { ⌜ Ready self ⌝ }
         ensures { λ r. ⌜ r ≡ crcDoneOf self word ⌝ }

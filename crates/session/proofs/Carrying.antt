@@ -1,0 +1,73 @@
+-- What a session is handed on as: count, burn mark, settings and file, of every reply. Assumes nothing.
+use Prim.Native.Nat.{ℕ, _+_}
+use mathlib.Core.Path.{_≡_, refl, ap}
+use mathlib.Core.Bool.{Bool, true, false, cond}
+use mathlib.Core.List.{List}
+use native.Mathlib.Omega.{arith}
+use Rattle.bus.specs.declared.Request.{Request}
+use Rattle.bus.specs.declared.Form.{Form}
+use Rattle.bus.specs.declared.Form.the-variants.{Unanswered, Misshapen, Miscoded, Good}
+use Rattle.bus.specs.Form.{formOf}
+use Rattle.guide.specs.declared.Verdict.{Verdict}
+use Rattle.session.specs.declared.Session.{Session}
+use Rattle.session.specs.declared.Answer.the-variants.{Next, Over, BadState}
+use Rattle.session.specs.declared.Stage.{Stage}
+use Rattle.session.specs.declared.Stage.the-variants.{Open, Ended}
+use Rattle.session.specs.declared.Step.{Step}
+use Rattle.session.specs.Moves.{withStage, withSent, putOf, endOf, badOf, overOf}
+use Rattle.session.specs.Sound.{soundOf}
+use Rattle.session.specs.Reply.{repliedOf, stageOf, replyOf}
+use Rattle.session.specs.Statements.{Carried, CarriesOn}
+use Rattle.session.proofs.Every.{Kept, step-every}
+
+over-next : {A : Type 0} {v : Verdict} → Over v ≡ Next → A
+over-next e = let z : _≡_ {A = ℕ} 0 1 = cc in absurd (let y : ⊥ = omega arith in y)
+
+bad-next : {A : Type 0} → BadState ≡ Next → A
+bad-next e = let z : _≡_ {A = ℕ} 0 1 = cc in absurd (let y : ⊥ = omega arith in y)
+
+module _ (s : Session) where
+  put-carried : (g : Step) (t : Session) → Kept s t → (next : Step) (q : Request) → Carried s (putOf t next q)
+  unfolding putOf withSent withStage
+  put-carried g t k next q =
+      record {
+        counts = λ e. (ap (λ (n : ℕ). n + 1) (k .sent), refl);
+        rests = λ f. absurd (f refl);
+        burned = k .burned;
+        settings = k .settings;
+        file = k .file;
+      }
+
+  end-carried : (g : Step) (v : Verdict) → Carried s (endOf s v)
+  unfolding endOf withStage
+  end-carried g v = record { counts = λ e. over-next e; rests = λ f. (refl, refl); burned = λ e. e; settings = refl; file = refl }
+
+  over-carried : (v : Verdict) → Carried s (overOf s v)
+  unfolding overOf
+  over-carried v = record { counts = λ e. over-next e; rests = λ f. (refl, refl); burned = λ e. e; settings = refl; file = refl }
+
+  bad-carried : Carried s (badOf s)
+  unfolding badOf
+  bad-carried = record { counts = λ e. bad-next e; rests = λ f. (refl, refl); burned = λ e. e; settings = refl; file = refl }
+
+module _ (text : List ℕ) (s : Session) (kind : ℕ) (bs : List ℕ) where
+  replied-carried : (g : Step) (f : Form) → Carried s (repliedOf text s g f)
+  unfolding repliedOf
+  replied-carried g Unanswered = end-carried s g _
+  replied-carried g Misshapen = end-carried s g _
+  replied-carried g Miscoded = end-carried s g _
+  replied-carried g (Good word) =
+      step-every text s word (λ h. Carried s) (put-carried s) (end-carried s) (λ h n d u. bad-carried s) g
+
+  open-carried : (g : Step) (b : Bool) → Carried s (cond b (repliedOf text s g (formOf (s .hand) kind bs)) (badOf s))
+  open-carried g true = replied-carried g _
+  open-carried g false = bad-carried s
+
+  stage-carried : (g : Stage) → Carried s (stageOf text s kind bs g)
+  unfolding stageOf
+  stage-carried (Open g) = open-carried g (soundOf s)
+  stage-carried (Ended v) = over-carried s v
+
+  pub carries-on : CarriesOn text s kind bs
+  unfolding CarriesOn replyOf
+  carries-on = stage-carried (s .stage)
