@@ -18,7 +18,9 @@ fit-kind-requires c κs = search needs
 
 returns-2 : tie.Need-returns-2
 unfolding fitOf
-returns-2 c = simp (le-ltb _ _ (c .before .before .before .if1 .left), eq-eqb _ _ (c .before .before .if2 .taken)) (c .fit-kind .ensures ∙ ap (fitKind _ _ _ _ _) (c .before .wanted .ensures))
+returns-2 c =
+    simp (le-ltb _ _ (c .before .before .before .if1 .left), eq-eqb _ _ (c .before .before .if2 .taken))
+    (c .fit-kind .ensures ∙ ap (fitKind _ _ _ _ _) (c .before .wanted .ensures))
 
 returns-3 : tie.Need-returns-3
 unfolding fitOf

@@ -28,11 +28,25 @@ returns-2 c = rw (c .enum-told .given .1)
 
 returns-3 : tie.Need-returns-3
 unfolding fitKind
-returns-3 c = simp (c .before .before .before .before .before .wanted .given .1, le-ltb _ _ (c .before .before .before .if1 .left), via (c .before .before .same-kind .ensures) (c .before .if2 .taken), lt-ltb _ _ (c .if3 .taken))
+returns-3 c =
+    let b = c .before .before in
+    simp (
+      b .before .before .before .wanted .given .1,
+      le-ltb _ _ (b .before .if1 .left),
+      via (b .same-kind .ensures) (c .before .if2 .taken),
+      lt-ltb _ _ (c .if3 .taken),
+    )
 
 returns-4 : tie.Need-returns-4
 unfolding fitKind
-returns-4 c = simp (c .before .before .before .before .before .wanted .given .1, le-ltb _ _ (c .before .before .before .if1 .left), via (c .before .before .same-kind .ensures) (c .before .if2 .taken), le-ltb _ _ (c .if3 .left))
+returns-4 c =
+    let b = c .before .before in
+    simp (
+      b .before .before .before .wanted .given .1,
+      le-ltb _ _ (b .before .if1 .left),
+      via (b .same-kind .ensures) (c .before .if2 .taken),
+      le-ltb _ _ (c .if3 .left),
+    )
 
 returns-5 : tie.Need-returns-5
 unfolding fitKind

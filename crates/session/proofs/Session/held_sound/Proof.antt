@@ -48,7 +48,11 @@ add-result-3 c = search needs
 
 returns-5 : tie.Need-returns-5
 unfolding heldSound heldTests mostSent
-returns-5 c = all-next _ _ _ (le-leb _ _ (c .before .before .before .before .before .if1 .left)) (all-next _ _ _ (le-leb _ _ (c .before .before .before .before .if2 .left)) (all-next _ _ _ (lt-ltb _ _ (c .before .before .before .if3 .left)) (all-next _ _ _ (lt-ltb _ _ (c .before .if4 .left)) (all-last1 _))))
+returns-5 c =
+    let b = c .before .before .before in
+    all-next _ _ _ (le-leb _ _ (b .before .before .if1 .left))
+    (all-next _ _ _ (le-leb _ _ (b .before .if2 .left))
+    (all-next _ _ _ (lt-ltb _ _ (b .if3 .left)) (all-next _ _ _ (lt-ltb _ _ (c .before .if4 .left)) (all-last1 _))))
 
 pub held-sound-spec : {M : Type 1} → statement M
 held-sound-spec =

@@ -33,10 +33,16 @@ returns : tie.Need-returns
 returns c = c .over .ensures ∙ when-ended _ _ _ _ _ (c .before .before .stage .given .1)
 
 returns-2 : tie.Need-returns-2
-returns-2 c = c .replied .ensures ∙ (ap (repliedOf _ _ _) (c .before .form .ensures) ∙ when-open _ _ _ _ _ true (c .before .before .before .before .before .before .stage2 .given .1) (via (c .before .before .before .before .sound .ensures) (c .before .before .before .if1 .taken)))
+returns-2 c =
+    let b = c .before .before .before in
+    c .replied .ensures
+    ∙ (ap (repliedOf _ _ _) (c .before .form .ensures)
+    ∙ when-open _ _ _ _ _ true (b .before .before .before .stage2 .given .1) (via (b .before .sound .ensures) (b .if1 .taken)))
 
 returns-3 : tie.Need-returns-3
-returns-3 c = c .bad .ensures ∙ when-open _ _ _ _ _ false (c .before .before .before .before .stage2 .given .1) (via (c .before .before .sound .ensures) (c .before .if1 .left))
+returns-3 c =
+    c .bad .ensures
+    ∙ when-open _ _ _ _ _ false (c .before .before .before .before .stage2 .given .1) (via (c .before .before .sound .ensures) (c .before .if1 .left))
 
 pub reply-spec : {M : Type 1} → statement M
 reply-spec =

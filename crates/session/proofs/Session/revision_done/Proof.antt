@@ -27,7 +27,9 @@ end-requires c κs = search needs
 
 returns : tie.Need-returns
 unfolding revisionDoneOf fitHeld fitDoneOf
-returns c = rw (via (c .before .before .before .before .of .ensures) (c .before .before .enum-told .given .1)) (c .put-line .ensures ∙ ap (putLineOf _ _) (c .before .first-write .ensures))
+returns c =
+    rw (via (c .before .before .before .before .of .ensures) (c .before .before .enum-told .given .1))
+    (c .put-line .ensures ∙ ap (putLineOf _ _) (c .before .first-write .ensures))
 
 returns-2 : tie.Need-returns-2
 unfolding revisionDoneOf fitHeld fitDoneOf

@@ -18,7 +18,11 @@ held-sound-requires c κs = search needs
 
 returns : tie.Need-returns
 unfolding soundOf stateTests
-returns c = c .held-sound .ensures ∙ all-next _ _ _ (via (c .before .before .before .before .allowed .ensures) (c .before .before .before .if1 .taken)) (all-next _ _ _ (via (c .before .before .file-sound .ensures) (c .before .if2 .taken)) (all-last1 _))
+returns c =
+    let b = c .before .before in
+    c .held-sound .ensures
+    ∙ all-next _ _ _ (via (b .before .before .allowed .ensures) (b .before .if1 .taken))
+    (all-next _ _ _ (via (b .file-sound .ensures) (c .before .if2 .taken)) (all-last1 _))
 
 returns-2 : tie.Need-returns-2
 unfolding soundOf stateTests

@@ -37,7 +37,9 @@ returns c = rw (via (c .before .before .before .of .ensures) (c .before .enum-to
 
 returns-2 : tie.Need-returns-2
 unfolding statusDoneOf polledDoneOf
-returns-2 c = rw (via (c .before .before .before .before .of .ensures) (c .before .before .enum-told2 .given .1)) (c .put .ensures ∙ ap (putOf _ _) (c .before .point .ensures))
+returns-2 c =
+    rw (via (c .before .before .before .before .of .ensures) (c .before .before .enum-told2 .given .1))
+    (c .put .ensures ∙ ap (putOf _ _) (c .before .point .ensures))
 
 returns-3 : tie.Need-returns-3
 unfolding statusDoneOf polledDoneOf

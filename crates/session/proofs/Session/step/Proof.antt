@@ -154,7 +154,10 @@ returns c = rw (c .before .before .enum-told .given .1) (c .put .ensures ∙ ap 
 
 returns-2 : tie.Need-returns-2
 unfolding stepOf
-returns-2 c = rw (c .before .before .before .enum-told2 .given .1) (c .put2 .ensures ∙ ap (putOf _ _) (c .before .write4 .ensures ∙ ap (λ w. writeOf 0xC5 (wordBytes w)) (c .before .before .cleared .ensures)))
+returns-2 c =
+    rw (c .before .before .before .enum-told2 .given .1)
+    (c .put2 .ensures
+    ∙ ap (putOf _ _) (c .before .write4 .ensures ∙ ap (λ w. writeOf 0xC5 (wordBytes w)) (c .before .before .cleared .ensures)))
 
 returns-3 : tie.Need-returns-3
 unfolding stepOf

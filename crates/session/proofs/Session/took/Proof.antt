@@ -23,19 +23,27 @@ due-put-requires-2 c κs = search needs
 
 returns : tie.Need-returns
 unfolding tookOf
-returns c = simp (via (c .before .before .before .before .before .is-burn .ensures) (c .before .before .before .before .if1 .taken), eq-eqb _ _ (c .before .if2 .taken)) (c .due-put .ensures)
+returns c =
+    let b = c .before .before .before .before in
+    simp (via (b .before .is-burn .ensures) (b .if1 .taken), eq-eqb _ _ (c .before .if2 .taken)) (c .due-put .ensures)
 
 returns-2 : tie.Need-returns-2
 unfolding tookOf
-returns-2 c = simp (via (c .before .before .before .before .before .is-burn .ensures) (c .before .before .before .before .if1 .taken), ne-eqb _ _ (c .before .if2 .left)) (c .bad .ensures)
+returns-2 c =
+    let b = c .before .before .before .before in
+    simp (via (b .before .is-burn .ensures) (b .if1 .taken), ne-eqb _ _ (c .before .if2 .left)) (c .bad .ensures)
 
 returns-3 : tie.Need-returns-3
 unfolding tookOf
-returns-3 c = simp (via (c .before .before .before .before .before .is-burn .ensures) (c .before .before .before .before .if1 .left), eq-eqb _ _ (c .before .if3 .taken)) (c .bad2 .ensures)
+returns-3 c =
+    let b = c .before .before .before .before in
+    simp (via (b .before .is-burn .ensures) (b .if1 .left), eq-eqb _ _ (c .before .if3 .taken)) (c .bad2 .ensures)
 
 returns-4 : tie.Need-returns-4
 unfolding tookOf
-returns-4 c = simp (via (c .before .before .before .before .before .is-burn .ensures) (c .before .before .before .before .if1 .left), ne-eqb _ _ (c .before .if3 .left)) (c .due-put2 .ensures)
+returns-4 c =
+    let b = c .before .before .before .before in
+    simp (via (b .before .is-burn .ensures) (b .if1 .left), ne-eqb _ _ (c .before .if3 .left)) (c .due-put2 .ensures)
 
 pub took-spec : {M : Type 1} → statement M
 took-spec =

@@ -19,11 +19,15 @@ reserved-requires c κs = search needs
 
 returns-3 : tie.Need-returns-3
 unfolding all settingTests allowedOf
-returns-3 c = simp (le-leb _ _ (c .before .before .before .before .if1 .left), le-leb _ _ (c .before .before .if2 .left), via (c .before .reserved .ensures) (c .if3 .taken))
+returns-3 c =
+    let b = c .before .before in
+    simp (le-leb _ _ (b .before .before .if1 .left), le-leb _ _ (b .if2 .left), via (c .before .reserved .ensures) (c .if3 .taken))
 
 returns-4 : tie.Need-returns-4
 unfolding all settingTests allowedOf
-returns-4 c = simp (le-leb _ _ (c .before .before .before .before .if1 .left), le-leb _ _ (c .before .before .if2 .left), via (c .before .reserved .ensures) (c .if3 .left))
+returns-4 c =
+    let b = c .before .before in
+    simp (le-leb _ _ (b .before .before .if1 .left), le-leb _ _ (b .if2 .left), via (c .before .reserved .ensures) (c .if3 .left))
 
 pub allowed-spec : {M : Type 1} → statement M
 allowed-spec = tie.close (tie.spec returns returns-2 reserved-requires returns-3 returns-4)

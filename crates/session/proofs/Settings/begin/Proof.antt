@@ -30,11 +30,18 @@ refused-requires-2 c κs = search needs
 
 returns : tie.Need-returns
 unfolding answeredOf
-returns c = c .start .ensures ∙ begin-answered _ _ _ _ (c .before .before .before .before .check .ensures) (via (c .before .before .before .before .before .before .allowed .ensures) (c .before .before .before .before .before .if1 .taken)) (c .before .enum-told .given .1)
+returns c =
+    let b = c .before .before .before .before in
+    c .start .ensures
+    ∙ begin-answered _ _ _ _ (b .check .ensures) (via (b .before .before .allowed .ensures) (b .before .if1 .taken)) (c .before .enum-told .given .1)
 
 returns-2 : tie.Need-returns-2
 unfolding answeredOf
-returns-2 c = c .refused .ensures ∙ begin-answered _ _ _ _ (c .before .before .before .before .before .check .ensures) (via (c .before .before .before .before .before .before .before .allowed .ensures) (c .before .before .before .before .before .before .if1 .taken)) (c .before .before .answer .given .1)
+returns-2 c =
+    let b = c .before .before .before .before .before in
+    c .refused .ensures
+    ∙ begin-answered _ _ _ _ (b .check .ensures) (via (b .before .before .allowed .ensures) (b .before .if1 .taken))
+    (c .before .before .answer .given .1)
 
 returns-3 : tie.Need-returns-3
 returns-3 c = c .refused2 .ensures ∙ begin-not _ _ (via (c .before .before .allowed .ensures) (c .before .if1 .left))

@@ -23,11 +23,18 @@ ids-sound-requires c κs = search needs
 
 returns-3 : tie.Need-returns-3
 unfolding fileSound fileTests
-returns-3 c = c .ids-sound .ensures ∙ all-next _ _ _ (le-leb _ _ (c .before .before .before .before .before .before .if1 .left)) (all-next _ _ _ (le-leb _ _ (c .before .before .before .before .before .if2 .left)) (all-next _ _ _ (eq-eqb _ _ (c .before .before .if3 .taken ∙ c .before .before .before .before .lines .ensures)) (all-last1 _)))
+returns-3 c =
+    let b = c .before .before in
+    c .ids-sound .ensures
+    ∙ all-next _ _ _ (le-leb _ _ (b .before .before .before .before .if1 .left))
+    (all-next _ _ _ (le-leb _ _ (b .before .before .before .if2 .left))
+    (all-next _ _ _ (eq-eqb _ _ (b .if3 .taken ∙ b .before .before .lines .ensures)) (all-last1 _)))
 
 returns-4 : tie.Need-returns-4
 unfolding fileSound fileTests
-returns-4 c = all-not (fileTests (c .before .before .before .before .before .args .file)) 2 (ne-eqb _ _ (λ e. c .if3 .left (e ∙ sym (c .before .before .lines .ensures))))
+returns-4 c =
+    all-not (fileTests (c .before .before .before .before .before .args .file)) 2
+    (ne-eqb _ _ (λ e. c .if3 .left (e ∙ sym (c .before .before .lines .ensures))))
 
 pub file-sound-spec : {M : Type 1} → statement M
 file-sound-spec =

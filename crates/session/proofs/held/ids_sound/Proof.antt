@@ -22,7 +22,11 @@ array-copy-out-id : tie.Need-array-copy-out-id Inv-loop μ-loop
 array-copy-out-id c = search needs
 
 returns : tie.Need-returns Inv-loop μ-loop
-returns c = sym (c .before .before .before .before .loop .inv .4 ∙ ids-stop (c .before .before .before .before .before .args .t1) (c .before .before .before .before .before .args .k) (c .before .before .before .before .loop .i) (c .before .before .before .before .loop .inv .0) (c .before .before .before .before .loop .inv .2) (omega arith) (c .if1 .taken))
+returns c =
+    let l = c .before .before .before .before in
+    sym
+    (l .loop .inv .4
+    ∙ ids-stop (l .before .args .t1) (l .before .args .k) (l .loop .i) (l .loop .inv .0) (l .loop .inv .2) (omega arith) (c .if1 .taken))
 
 add-i : tie.Need-add-i Inv-loop μ-loop
 add-i c = omega arith
@@ -31,10 +35,20 @@ loop-less : tie.Need-loop-less Inv-loop μ-loop
 loop-less c = omega arith
 
 loop-again : tie.Need-loop-again Inv-loop μ-loop
-loop-again c = (c .before .before .before .before .loop .inv .0, c .before .before .before .before .loop .inv .1, c .before .before .before .before .loop .inv .2, omega arith, c .before .before .before .before .loop .inv .4 ∙ ids-go (c .before .before .before .before .before .args .t1) (c .before .before .before .before .before .args .k) (c .before .before .before .before .loop .i) (c .before .before .before .before .loop .inv .0) (c .before .before .before .before .loop .inv .2) (omega arith) (c .if1 .left))
+loop-again c =
+    let l = c .before .before .before .before in (
+      l .loop .inv .0,
+      l .loop .inv .1,
+      l .loop .inv .2,
+      omega arith,
+      l .loop .inv .4
+          ∙ ids-go (l .before .args .t1) (l .before .args .k) (l .loop .i) (l .loop .inv .0) (l .loop .inv .2) (omega arith) (c .if1 .left),
+    )
 
 returns-2 : tie.Need-returns-2 Inv-loop μ-loop
-returns-2 c = sym (c .before .loop .inv .4 ∙ ids-end (c .before .before .args .t1) (c .before .before .args .k) (c .before .loop .i) (c .before .loop .inv .0) (c .before .loop .inv .2) (omega arith))
+returns-2 c =
+    let l = c .before in
+    sym (l .loop .inv .4 ∙ ids-end (l .before .args .t1) (l .before .args .k) (l .loop .i) (l .loop .inv .0) (l .loop .inv .2) (omega arith))
 
 pub ids-sound-spec : {M : Type 1} → statement M
 ids-sound-spec =
