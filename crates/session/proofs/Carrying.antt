@@ -1,16 +1,14 @@
 -- What a session is handed on as: count, burn mark, settings and file, of every reply. Assumes nothing.
 use Prim.Native.Nat.{ℕ, _+_}
-use mathlib.Core.Path.{_≡_, refl, ap}
+use mathlib.Core.Path.{refl, sym, ap}
 use mathlib.Core.Bool.{Bool, true, false, cond}
 use mathlib.Core.List.{List}
-use native.Mathlib.Omega.{arith}
 use Rattle.bus.specs.declared.Request.{Request}
 use Rattle.bus.specs.declared.Form.{Form}
 use Rattle.bus.specs.declared.Form.the-variants.{Unanswered, Misshapen, Miscoded, Good}
 use Rattle.bus.specs.Form.{formOf}
 use Rattle.guide.specs.declared.Verdict.{Verdict}
 use Rattle.session.specs.declared.Session.{Session}
-use Rattle.session.specs.declared.Answer.the-variants.{Next, Over, BadState}
 use Rattle.session.specs.declared.Stage.{Stage}
 use Rattle.session.specs.declared.Stage.the-variants.{Open, Ended}
 use Rattle.session.specs.declared.Step.{Step}
@@ -18,13 +16,8 @@ use Rattle.session.specs.Moves.{withStage, withSent, putOf, endOf, badOf
 use Rattle.session.specs.Sound.{soundOf}
 use Rattle.session.specs.Reply.{repliedOf, stageOf, replyOf}
 use Rattle.session.specs.Statements.{Carried, CarriesOn}
+use Rattle.session.proofs.Cases.{next-bad, next-over}
 use Rattle.session.proofs.Every.{Kept, step-every}
-
-over-next : {A : Type 0} {v : Verdict} → Over v ≡ Next → A
-over-next e = let z : _≡_ {A = ℕ} 0 1 = cc in absurd (let y : ⊥ = omega arith in y)
-
-bad-next : {A : Type 0} → BadState ≡ Next → A
-bad-next e = let z : _≡_ {A = ℕ} 0 1 = cc in absurd (let y : ⊥ = omega arith in y)
 
 module _ (s : Session) where
   put-carried : (g : Step) (t : Session) → Kept s t → (next : Step) (q : Request) → Carried s (putOf t next q)
@@ -40,15 +33,15 @@ module _ (s : Session) where
 
   end-carried : (g : Step) (v : Verdict) → Carried s (endOf s v)
   unfolding endOf withStage
-  end-carried g v = record { counts = λ e. over-next e; rests = λ f. (refl, refl); burned = λ e. e; settings = refl; file = refl }
+  end-carried g v = record { counts = λ e. next-over (sym e); rests = λ f. (refl, refl); burned = λ e. e; settings = refl; file = refl }
 
   over-carried : (v : Verdict) → Carried s (overOf s v)
   unfolding overOf
-  over-carried v = record { counts = λ e. over-next e; rests = λ f. (refl, refl); burned = λ e. e; settings = refl; file = refl }
+  over-carried v = record { counts = λ e. next-over (sym e); rests = λ f. (refl, refl); burned = λ e. e; settings = refl; file = refl }
 
   bad-carried : Carried s (badOf s)
   unfolding badOf
-  bad-carried = record { counts = λ e. bad-next e; rests = λ f. (refl, refl); burned = λ e. e; settings = refl; file = refl }
+  bad-carried = record { counts = λ e. next-bad (sym e); rests = λ f. (refl, refl); burned = λ e. e; settings = refl; file = refl }
 
 module _ (text : List ℕ) (s : Session) (kind : ℕ) (bs : List ℕ) where
   replied-carried : (g : Step) (f : Form) → Carried s (repliedOf text s g f)

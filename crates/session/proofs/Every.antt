@@ -38,7 +38,7 @@ use Rattle.session.specs.Reply.{stepOf}
 use Rattle.session.specs.Statements.{Due, first, later, Unfit, noLine, early, late}
 
 -- of a choice, by both its sides
-by : {A : Type 0} (Q : A → Type 0) (b : Bool) (x y : A) → (b ≡ true → Q x) → (b ≡ false → Q y) → Q (cond b x y)
+pub by : {A : Type 0} (Q : A → Type 0) (b : Bool) (x y : A) → (b ≡ true → Q x) → (b ≡ false → Q y) → Q (cond b x y)
 by Q true x y f g = f refl
 by Q false x y f g = g refl
 

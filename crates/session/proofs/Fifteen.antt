@@ -4,7 +4,6 @@ use Prim.Native.Nat.{ℕ}
 use mathlib.Core.Path.{_≡_, refl, sym, ap, _∙_}
 use mathlib.Core.Bool.{Bool, true, false, cond}
 use mathlib.Core.List.{List}
-use native.Mathlib.Omega.{arith}
 use Rattle.counts.specs.declared.LineNumber.{LineNumber}
 use Rattle.bus.specs.Bus.{noRequest}
 use Rattle.bus.specs.Form.{formOf}
@@ -14,7 +13,7 @@ use Rattle.bus.specs.declared.Form.the-variants.{Unanswered, Misshapen, Miscode
 use Rattle.guide.specs.declared.Verdict.{Verdict}
 use Rattle.session.specs.declared.Session.{Session}
 use Rattle.session.specs.declared.Handed.{Handed}
-use Rattle.session.specs.declared.Answer.the-variants.{Next, Over, BadState}
+use Rattle.session.specs.declared.Answer.the-variants.{Over, BadState}
 use Rattle.session.specs.declared.Stage.{Stage}
 use Rattle.session.specs.declared.Stage.the-variants.{Open, Ended}
 use Rattle.session.specs.declared.Step.{Step}
@@ -22,23 +21,11 @@ use Rattle.session.specs.Moves.{withStage, putOf, endOf, badOf, overOf}
 use Rattle.session.specs.Sound.{soundOf}
 use Rattle.session.specs.Reply.{repliedOf, replyOf}
 use Rattle.session.specs.Statements.{Due, Unfit, Fifteen, before, due, FifteenExactly, VerdictStands}
+use Rattle.session.proofs.Cases.{next-bad, next-over, over-bad}
 use Rattle.session.proofs.Laws.{when-ended, when-open}
 use Rattle.session.proofs.Spoiled.{spoiled-refused, refused-spoiled}
 use Rattle.session.proofs.Every.{Kept, step-every}
 use Rattle.session.proofs.Refusing.{due-bad}
-
--- answers of other cases
-next-bad : {A : Type 0} → Next ≡ BadState → A
-next-bad e = let z : _≡_ {A = ℕ} 0 1 = cc in absurd (let y : ⊥ = omega arith in y)
-
-over-bad : {A : Type 0} {v : Verdict} → Over v ≡ BadState → A
-over-bad e = let z : _≡_ {A = ℕ} 0 1 = cc in absurd (let y : ⊥ = omega arith in y)
-
-next-over : {A : Type 0} {v : Verdict} → Next ≡ Over v → A
-next-over e = let z : _≡_ {A = ℕ} 0 1 = cc in absurd (let y : ⊥ = omega arith in y)
-
-bad-over : {A : Type 0} {v : Verdict} → BadState ≡ Over v → A
-bad-over e = let z : _≡_ {A = ℕ} 0 1 = cc in absurd (let y : ⊥ = omega arith in y)
 
 module _ (text : List ℕ) (s : Session) (kind : ℕ) (bs : List ℕ) where
   -- what is shown of what a call hands back
@@ -57,7 +44,7 @@ module _ (text : List ℕ) (s : Session) (kind : ℕ) (bs : List ℕ) where
 
   bad-shown : (g : Step) → Fifteen text s kind bs g → Shown g (badOf s)
   unfolding badOf
-  bad-shown g f = record { only = λ e. f; leaves = λ e. (refl, refl); ends = λ v e. bad-over e }
+  bad-shown g f = record { only = λ e. f; leaves = λ e. (refl, refl); ends = λ v e. over-bad (sym e) }
 
   replied-shown : (g : Step) (f : Form) → formOf (s .hand) kind bs ≡ f → Shown g (repliedOf text s g f)
   unfolding repliedOf

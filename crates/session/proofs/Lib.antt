@@ -1,4 +1,5 @@
 pub mod Tests
+pub mod Cases
 pub mod Ids
 pub mod Laws
 pub mod SettingsOut
@@ -7,4 +8,5 @@ pub mod Every
 pub mod Refusing
 pub mod Fifteen
 pub mod Carrying
+pub mod Beginning
 pub mod Fourteen

@@ -48,16 +48,17 @@ pub data SettingOut (S : Settings) : Type 0 where
 -- ---- 15, before the reply is looked at
 
 pub data Spoiled (s : Session) : Type 0 where
+  -- a held setting is not allowed
   setting : SettingOut (s .settings) → Spoiled s
-  -- k is 1 to 8
+  -- k is not 1 to 8
   configs : ((1 ≤ s .file .configs) × (s .file .configs ≤ 8) → ⊥) → Spoiled s
-  -- n is 12 + s x k
+  -- n is not 12 + s x k
   lines : (s .file .lines ≡ lineCount (s .file .kind) (s .file .configs) → ⊥) → Spoiled s
-  -- the line in hand is 5 to n
+  -- the line in hand is not 5 to n
   line : ((5 ≤ s .position .line .0) × (s .position .line .0 ≤ s .file .lines) → ⊥) → Spoiled s
-  -- the configuration in hand is under k
+  -- the configuration in hand is not under k
   config : (s .position .config .0 < s .file .configs → ⊥) → Spoiled s
-  -- the polls used are under the limit
+  -- the polls used are not under the limit
   polls : (s .position .polls < s .settings .limit → ⊥) → Spoiled s
   -- an identifier is above 15
   identifier : (N : ℕ) → N < s .file .configs → 15 < getD (s .file .ids) N (configId 0) .0 → Spoiled s
@@ -115,12 +116,20 @@ module _ (text : List ℕ) (s : Session) (kind : ℕ) (bs : List ℕ) where
 
 -- ---- of a beginning
 
+-- a refused begin hands back an ended state with its verdict, count 0, no burn, and a request of zeros; an accepted one the first
+-- request, count 1
+pub record Begun (h : Handed) : Type 0 where
+  pub refused : (v : Verdict) → h .answer ≡ Over v
+      → (h .session .stage ≡ Ended v) × (h .session .sent ≡ 0) × (h .session .burned ≡ false) × (h .request ≡ noRequest)
+  pub accepted : h .answer ≡ Next → (h .session .sent ≡ 1) × (h .session .hand ≡ h .request) × (h .session .burned ≡ false)
+  -- 15 is not given
+  pub never : h .answer ≡ BadState → ⊥
+
 module _ (S : Settings) (text : List ℕ) where
   -- 14 exactly where a setting is out of its range, whatever the file; with line 0 and N 0
   pub record FourteenExactly : Type 0 where
     pub only : (l : LineNumber) (N : ConfigNumber) → reportOf (beginOf S text .answer) ≡ Is 14 l N → SettingOut S
     pub when : SettingOut S → reportOf (beginOf S text .answer) ≡ Is 14 (lineNumber 0) (configNumber 0)
 
-  -- a refused begin hands back an ended state and a request of zeros
-  unfoldable pub RefusedEnds : Type 0
-  RefusedEnds = (v : Verdict) → beginOf S text .answer ≡ Over v → (beginOf S text .session .stage ≡ Ended v) × (beginOf S text .request ≡ noRequest)
+  unfoldable pub BeginsSo : Type 0
+  BeginsSo = Begun (beginOf S text)

@@ -1,0 +1,70 @@
+-- What a begin hands back, refused or accepted. Assumes nothing.
+use Prim.Native.Nat.{ℕ, _+_}
+use mathlib.Core.Path.{_≡_, refl, sym, ap}
+use mathlib.Core.Bool.{true, false}
+use mathlib.Core.List.{List}
+use Rattle.line.proofs.Basics.{split}
+use Rattle.image.specs.declared.Summary.{Summary}
+use Rattle.image.specs.declared.Answer.{Answer}
+use Rattle.image.specs.declared.Answer.the-variants.{Accepted, Refused}
+use Rattle.image.specs.Check.{checkOf}
+use Rattle.bus.specs.declared.Request.{Request}
+use Rattle.bus.specs.Bus.{pointTo}
+use Rattle.guide.specs.declared.Verdict.{Verdict}
+use Rattle.guide.specs.declared.Verdict.the-variants.{Setting, File}
+use Rattle.session.specs.declared.Settings.{Settings}
+use Rattle.session.specs.declared.Session.{Session}
+use Rattle.session.specs.declared.Handed.{Handed}
+use Rattle.session.specs.declared.Answer.the-variants.{Next}
+use Rattle.session.specs.declared.Step.{Step}
+use Rattle.session.specs.declared.Step.the-variants.{TrimAt, CounterAt}
+use Rattle.session.specs.Sound.{allowedOf}
+use Rattle.session.specs.Moves.{withStage, withSent, putOf, overOf}
+use Rattle.session.specs.Begin.{freshOf, firstOf, startOf, refusedOf, answeredOf, beginOf}
+use Rattle.session.specs.Statements.{Begun, BeginsSo}
+use Rattle.session.proofs.Cases.{next-bad, next-over, over-bad}
+use Rattle.session.proofs.Laws.{begin-answered, begin-not}
+use Rattle.session.proofs.Every.{by}
+
+module _ (s : Session) where
+  put-begun : (g : Step) (q : Request) → s .sent ≡ 0 → s .burned ≡ false → Begun (putOf s g q)
+  unfolding putOf withSent withStage
+  put-begun g q e b =
+      record { refused = λ v f. next-over f; accepted = λ f. (ap (λ (n : ℕ). n + 1) e, refl, b); never = λ f. next-bad f }
+
+  -- of either first request
+  of-first : (Q : Handed → Type 0) → ((g : Step) (q : Request) → Q (putOf s g q)) → Q (firstOf s)
+  unfolding firstOf
+  of-first Q f =
+      by Q (s .settings .wanted) (putOf s TrimAt (pointTo 0xA2 0x00)) (putOf s CounterAt (pointTo 0x35 0x00)) (λ e. f TrimAt (pointTo 0xA2 0x00))
+      (λ e. f CounterAt (pointTo 0x35 0x00))
+
+module _ (S : Settings) where
+  -- an accepted file's begin awaits a reply
+  pub started : (f : Summary) → startOf S f .answer ≡ Next
+  unfolding startOf putOf
+  started f = of-first _ (λ h. h .answer ≡ Next) (λ g q. refl)
+
+  start-begun : (f : Summary) → Begun (startOf S f)
+  unfolding startOf freshOf
+  start-begun f = of-first _ Begun (λ g q. put-begun _ g q refl refl)
+
+  refused-begun : (v : Verdict) → Begun (refusedOf S v)
+  unfolding refusedOf overOf freshOf
+  refused-begun v = record { refused = λ w e. (cc, refl, refl, refl); accepted = λ e. next-over (sym e); never = λ e. over-bad e }
+
+  answered-begun : (f : Summary) (a : Answer) → Begun (answeredOf S f a)
+  unfolding answeredOf
+  answered-begun f Accepted = start-begun f
+  answered-begun f (Refused r) = refused-begun (File r)
+
+module _ (S : Settings) (text : List ℕ) where
+  -- by the file's answer, where the settings are allowed
+  pub begun : allowedOf S ≡ true → answeredOf S (checkOf text .summary) (checkOf text .answer) ≡ beginOf S text
+  begun e = begin-answered S text (checkOf text) (checkOf text .answer) refl e refl
+
+  pub begins-so : BeginsSo S text
+  unfolding BeginsSo
+  begins-so =
+      split (allowedOf S) (λ a. rw (← begun a) (answered-begun S (checkOf text .summary) (checkOf text .answer)))
+      (λ a. rw (← begin-not S text a) (refused-begun S Setting))
