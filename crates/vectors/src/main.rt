@@ -1,0 +1,97 @@
+// Runs the examples of document 01 that are marked to be run and compared through the proved functions, and prints what comes out:
+// a line each. The file `stdout` beside src/ has the page's answers.
+use counts::Kind;
+use counts::KindFound;
+use guide::Fit;
+use guide::Polled;
+use libc::STDOUT_FILENO;
+
+fn say(words: &[u8]) {
+    io::write_all(STDOUT_FILENO, words);
+}
+
+fn say_number(number: u8) {
+    io::print_decimal(STDOUT_FILENO, number as u64);
+    say(b"\n");
+}
+
+fn say_kind(kind: Kind) {
+    match kind {
+        Kind::Legacy => say(b"legacy\n"),
+        Kind::Production => say(b"production\n"),
+    }
+}
+
+// The kind wanted, or what 23 to 28 say of a file of this kind with one configuration whose identity and revision are right.
+fn judge(kind: Kind, counter: u32, flag: u32) {
+    let fit = Fit::of(
+        kind,
+        0x49D28100,
+        1,
+        0,
+        counter,
+        0x49D28100,
+        flag,
+        0x06000000,
+    );
+    match fit {
+        Fit::Fails(verdict) => say_number(verdict.number()),
+        Fit::Matched => {
+            let found = guide::wanted(counter, flag);
+            match found {
+                KindFound::Is(wanted) => say_kind(wanted),
+                KindFound::Unknown => say(b"none\n"),
+            }
+        }
+    }
+}
+
+fn judge_status(status: u32) {
+    let polled = Polled::of(status);
+    match polled {
+        Polled::Busy => say(b"again\n"),
+        Polled::Passed => say(b"passes\n"),
+        Polled::Failed => say_number(guide::Verdict::Program.number()),
+    }
+}
+
+fn judge_banks(word: u32) {
+    if guide::banks_right(2, word) {
+        say(b"passes\n");
+    } else {
+        say_number(guide::Verdict::Banks.number());
+    }
+}
+
+fn count(kind: Kind, lines: u32) {
+    io::print_decimal(STDOUT_FILENO, kind.configs(lines) as u64);
+    say(b" ");
+    say_kind(kind);
+}
+
+fn main() {
+    say(b"counter 27, flag 0: ");
+    judge(Kind::Legacy, 27, 0);
+    say(b"counter 28, flag 0: ");
+    judge(Kind::Production, 28, 0);
+    say(b"counter 27, flag 1: ");
+    judge(Kind::Legacy, 27, 1);
+    say(b"counter 29: ");
+    judge(Kind::Legacy, 29, 0);
+    say(b"counter 0, flag 0, legacy file: ");
+    judge(Kind::Legacy, 0, 0);
+    say(b"status 41: ");
+    judge_status(0x41);
+    say(b"status 09: ");
+    judge_status(0x09);
+    say(b"k = 2, banks 00000011: ");
+    judge_banks(0x00000011);
+    say(b"k = 2, banks 00000111: ");
+    judge_banks(0x00000111);
+    say(b"k = 2, banks 00000010: ");
+    judge_banks(0x00000010);
+    say(b"738 lines: ");
+    count(Kind::Production, 738);
+    say(b"349 lines: ");
+    count(Kind::Legacy, 349);
+}
