@@ -58,64 +58,64 @@ pec-of bytes = one-answer _
 
 -- ---- bus
 
-pub bus-write1 : (command a : ℕ) → One (λ r. r ≡ writeOf command (a ∷ []))
-bus-write1 command a = one-answer _
+pub bus-Bus-write1 : (command a : ℕ) → One (λ r. r ≡ writeOf command (a ∷ []))
+bus-Bus-write1 command a = one-answer _
 
-pub bus-framed2 : (command a b p : ℕ) → One (λ r. r ≡ framed (0xC0 ∷ command ∷ a ∷ b ∷ []) p)
-bus-framed2 command a b p = one-answer _
+pub bus-Bus-framed2 : (command a b p : ℕ) → One (λ r. r ≡ framed (0xC0 ∷ command ∷ a ∷ b ∷ []) p)
+bus-Bus-framed2 command a b p = one-answer _
 
-pub bus-framed4 : (command a b c d p : ℕ) → One (λ r. r ≡ framed (0xC0 ∷ command ∷ a ∷ b ∷ c ∷ d ∷ []) p)
-bus-framed4 command a b c d p = one-answer _
+pub bus-Bus-framed4 : (command a b c d p : ℕ) → One (λ r. r ≡ framed (0xC0 ∷ command ∷ a ∷ b ∷ c ∷ d ∷ []) p)
+bus-Bus-framed4 command a b c d p = one-answer _
 
-pub bus-write2 : (command a b : ℕ) → One (λ r. r ≡ writeOf command (a ∷ b ∷ []))
-bus-write2 command a b = one-answer _
+pub bus-Bus-write2 : (command a b : ℕ) → One (λ r. r ≡ writeOf command (a ∷ b ∷ []))
+bus-Bus-write2 command a b = one-answer _
 
-pub bus-point : (register : ℕ) → One (λ r. r ≡ pointTo (register % 256) (register / 256))
-bus-point register = one-answer _
+pub bus-Bus-point : (register : ℕ) → One (λ r. r ≡ pointTo (register % 256) (register / 256))
+bus-Bus-point register = one-answer _
 
-pub bus-write4 : (command word : ℕ) → One (λ r. r ≡ writeOf command (wordBytes word))
-bus-write4 command word = one-answer _
+pub bus-Bus-write4 : (command word : ℕ) → One (λ r. r ≡ writeOf command (wordBytes word))
+bus-Bus-write4 command word = one-answer _
 
-pub bus-read : (command count : ℕ) → One (λ r. r ≡ readOf command count)
-bus-read command count = one-answer _
+pub bus-Bus-read : (command count : ℕ) → One (λ r. r ≡ readOf command count)
+bus-Bus-read command count = one-answer _
 
-pub bus-none : One (λ r. r ≡ noRequest)
-bus-none = one-answer _
+pub bus-Bus-none : One (λ r. r ≡ noRequest)
+bus-Bus-none = one-answer _
 
-pub bus-reserved : (command : ℕ) → One (λ r. r ≡ reserved command)
-bus-reserved command = one-answer _
+pub bus-Bus-reserved : (command : ℕ) → One (λ r. r ≡ reserved command)
+bus-Bus-reserved command = one-answer _
 
-pub bus-form : (self : Request) (kind : ℕ) (bytes : List ℕ) → One (λ r. r ≡ formOf self kind bytes)
-bus-form self kind bytes = one-answer _
+pub bus-Request-form : (self : Request) (kind : ℕ) (bytes : List ℕ) → One (λ r. r ≡ formOf self kind bytes)
+bus-Request-form self kind bytes = one-answer _
 
 -- ---- counts
 
-pub counts-of-revision : (first : ℕ) → One (λ r. r ≡ kindOf first)
-counts-of-revision first = one-answer _
+pub counts-Kind-of-revision : (first : ℕ) → One (λ r. r ≡ kindOf first)
+counts-Kind-of-revision first = one-answer _
 
-pub counts-lines : (self : Kind) (configs : ℕ) → One (λ r. r ≡ lineCount self configs)
-counts-lines self configs = one-answer _
+pub counts-Kind-lines : (self : Kind) (configs : ℕ) → One (λ r. r ≡ lineCount self configs)
+counts-Kind-lines self configs = one-answer _
 
-pub counts-configs : (self : Kind) (lines : ℕ) → One (λ r. r ≡ configsOf self lines)
-counts-configs self lines = one-answer _
+pub counts-Kind-configs : (self : Kind) (lines : ℕ) → One (λ r. r ≡ configsOf self lines)
+counts-Kind-configs self lines = one-answer _
 
-pub counts-identifier-line : (self : Kind) (config : ConfigNumber) → One (λ r. r ≡ identifierLine self config)
-counts-identifier-line self config = one-answer _
+pub counts-Kind-identifier-line : (self : Kind) (config : ConfigNumber) → One (λ r. r ≡ identifierLine self config)
+counts-Kind-identifier-line self config = one-answer _
 
-pub counts-crc-line : (self : Kind) (config : ConfigNumber) → One (λ r. r ≡ crcLine self config)
-counts-crc-line self config = one-answer _
+pub counts-Kind-crc-line : (self : Kind) (config : ConfigNumber) → One (λ r. r ≡ crcLine self config)
+counts-Kind-crc-line self config = one-answer _
 
-pub counts-lines-to-crc : (self : Kind) → One (λ r. r ≡ crcPlace self - 12)
-counts-lines-to-crc self = one-answer _
+pub counts-Kind-lines-to-crc : (self : Kind) → One (λ r. r ≡ crcPlace self - 12)
+counts-Kind-lines-to-crc self = one-answer _
 
-pub counts-lines-behind-crc : (self : Kind) → One (λ r. r ≡ stepOf self + 1 - crcPlace self)
-counts-lines-behind-crc self = one-answer _
+pub counts-Kind-lines-behind-crc : (self : Kind) → One (λ r. r ≡ stepOf self + 1 - crcPlace self)
+counts-Kind-lines-behind-crc self = one-answer _
 
-pub counts-bank : (self : ConfigNumber) → One (λ r. r ≡ bankOf self)
-counts-bank self = one-answer _
+pub counts-ConfigNumber-bank : (self : ConfigNumber) → One (λ r. r ≡ bankOf self)
+counts-ConfigNumber-bank self = one-answer _
 
-pub counts-first-write : One (λ r. r ≡ firstLine)
-counts-first-write = one-answer _
+pub counts-LineNumber-first-write : One (λ r. r ≡ firstLine)
+counts-LineNumber-first-write = one-answer _
 
 -- ---- text
 
@@ -136,15 +136,14 @@ text-put-decimal out at n = one-put
 
 -- ---- line
 
-pub line-number : (self : Fault) → One (λ r. r ≡ faultNumber self)
-line-number self = one-answer _
+pub line-Fault-number : (self : Fault) → One (λ r. r ≡ faultNumber self)
+line-Fault-number self = one-answer _
 
--- the promise fixes the entries; that there are 256 is in the result's type, `[u8; 256]`
-pub line-digits : (r q : List ℕ) → length r ≡ 256 → length q ≡ 256 → IsDigits r → IsDigits q → r ≡ q
+pub line-digits : One IsDigits
 unfolding digitBy
-line-digits r q k l e f =
-    ext-getD 0 r q (k ∙ sym l) λ i h.
-    let small : i < 256 = omega arith in
+line-digits r q e f =
+    ext-getD 0 r q (e .size ∙ sym (f .size)) λ i h.
+    let small : i < 256 = omega (arith, e .size) in
     (simp (lt-ltb i 256 small) at (e .entry i)) ∙ sym (simp (lt-ltb i 256 small) at (f .entry i))
 
 pub line-read-at : (digits table s : List ℕ) (at : ℕ) (n : LineNumber) → One (λ r. r ≡ lentStep digits table n at s)

@@ -1,5 +1,6 @@
 -- One answer, on: the crates that know a whole file, and the entries for C. Assumes nothing.
 use mathlib.Core.Path.{_≡_}
+use mathlib.Core.Bool.{Bool}
 use mathlib.Core.List.{List}
 use Prim.Native.Nat.{ℕ}
 use Rattle.pec.specs.Pec.{pec}
@@ -20,27 +21,32 @@ use Rattle.text.proofs.Unique.{one-put}
 use Rattle.session.specs.declared.Settings.{Settings}
 use Rattle.session.specs.declared.Session.{Session}
 use Rattle.session.specs.declared.Answer.{Answer}
-use Rattle.session.specs.Begin.{startOf, beginOf}
+use Rattle.session.specs.Sound.{allowedOf}
+use Rattle.session.specs.Begin.{beginOf}
 use Rattle.session.specs.Reply.{replyOf}
 use Rattle.session.specs.Reports.{reportOf}
+use Rattle.bus.specs.declared.Request.{Request}
+use Rattle.session.specs.declared.Report.{Report}
+use Rattle.dryrun.specs.Parts.{foundAt, inputOf}
+use Rattle.dryrun.specs.Lines.{requestLine, reportLine, countLine}
 use Rattle.demands.proofs.Unique.{One, one-answer, OnePut}
 
 -- ---- image
 
-pub image-refusal-number : (self : Refusal) → One (λ r. r ≡ refusalNumber self)
-image-refusal-number self = one-answer _
+pub image-Refusal-number : (self : Refusal) → One (λ r. r ≡ refusalNumber self)
+image-Refusal-number self = one-answer _
 
-pub image-refusal-line : (self : Refusal) → One (λ r. r ≡ refusalLine self)
-image-refusal-line self = one-answer _
+pub image-Refusal-line : (self : Refusal) → One (λ r. r ≡ refusalLine self)
+image-Refusal-line self = one-answer _
 
-pub image-answer-number : (self : image.Answer) → One (λ r. r ≡ answerNumber self)
-image-answer-number self = one-answer _
+pub image-Answer-number : (self : image.Answer) → One (λ r. r ≡ answerNumber self)
+image-Answer-number self = one-answer _
 
-pub image-answer-line : (self : image.Answer) → One (λ r. r ≡ answerLine self)
-image-answer-line self = one-answer _
+pub image-Answer-line : (self : image.Answer) → One (λ r. r ≡ answerLine self)
+image-Answer-line self = one-answer _
 
-pub image-summary-none : One (λ r. r ≡ noSummary)
-image-summary-none = one-answer _
+pub image-Summary-none : One (λ r. r ≡ noSummary)
+image-Summary-none = one-answer _
 
 pub image-is-burn : (l : Line) → One (λ r. r ≡ isBurn l)
 image-is-burn l = one-answer _
@@ -53,24 +59,24 @@ image-check text = one-answer _
 pub guide-wanted : (counter flag : ℕ) → One (λ r. r ≡ wantedOf counter flag)
 guide-wanted counter flag = one-answer _
 
-pub guide-fit-of : (kind : Kind) (expected configs kept counter identity flag revision : ℕ)
+pub guide-Fit-of : (kind : Kind) (expected configs kept counter identity flag revision : ℕ)
     → One (λ r. r ≡ fitOf kind expected configs kept counter identity flag revision)
-guide-fit-of kind expected configs kept counter identity flag revision = one-answer _
+guide-Fit-of kind expected configs kept counter identity flag revision = one-answer _
 
-pub guide-polled-of : (status : ℕ) → One (λ r. r ≡ polledOf status)
-guide-polled-of status = one-answer _
+pub guide-Polled-of : (status : ℕ) → One (λ r. r ≡ polledOf status)
+guide-Polled-of status = one-answer _
 
 pub guide-banks-right : (configs word : ℕ) → One (λ r. r ≡ banksRight configs word)
 guide-banks-right configs word = one-answer _
 
-pub guide-number : (self : Verdict) → One (λ r. r ≡ numberOf self)
-guide-number self = one-answer _
+pub guide-Verdict-number : (self : Verdict) → One (λ r. r ≡ numberOf self)
+guide-Verdict-number self = one-answer _
 
-pub guide-line : (self : Verdict) → One (λ r. r ≡ lineOf self)
-guide-line self = one-answer _
+pub guide-Verdict-line : (self : Verdict) → One (λ r. r ≡ lineOf self)
+guide-Verdict-line self = one-answer _
 
-pub guide-config : (self : Verdict) → One (λ r. r ≡ configOf self)
-guide-config self = one-answer _
+pub guide-Verdict-config : (self : Verdict) → One (λ r. r ≡ configOf self)
+guide-Verdict-config self = one-answer _
 
 pub guide-cleared : (word : ℕ) → One (λ r. r ≡ cleared word)
 guide-cleared word = one-answer _
@@ -80,28 +86,45 @@ guide-line-request line = one-answer _
 
 -- ---- session
 
-pub session-start : (S : Settings) (file : Summary) → One (λ r. r ≡ startOf S file)
-session-start S file = one-answer _
+pub session-Settings-allowed : (self : Settings) → One (λ r. r ≡ allowedOf self)
+session-Settings-allowed self = one-answer _
 
-pub session-begin : (S : Settings) (text : List ℕ) → One (λ r. r ≡ beginOf S text)
-session-begin S text = one-answer _
+pub session-Settings-begin : (S : Settings) (text : List ℕ) → One (λ r. r ≡ beginOf S text)
+session-Settings-begin S text = one-answer _
 
-pub session-reply : (text : List ℕ) (self : Session) (kind : ℕ) (bytes : List ℕ) → One (λ r. r ≡ replyOf text self kind bytes)
-session-reply text self kind bytes = one-answer _
+pub session-Session-reply : (text : List ℕ) (self : Session) (kind : ℕ) (bytes : List ℕ) → One (λ r. r ≡ replyOf text self kind bytes)
+session-Session-reply text self kind bytes = one-answer _
 
-pub session-report : (self : Answer) → One (λ r. r ≡ reportOf self)
-session-report self = one-answer _
+pub session-Answer-report : (self : Answer) → One (λ r. r ≡ reportOf self)
+session-Answer-report self = one-answer _
 
 -- ---- shown, loader and measured
 
 pub shown-show : (text out : List ℕ) → OnePut out 0 (shown text)
 shown-show text out = one-put
 
-pub loader-pec : (bytes : List ℕ) → One (λ r. r ≡ pec bytes)
-loader-pec bytes = one-answer _
+pub loader-tehilgam-pec : (bytes : List ℕ) → One (λ r. r ≡ pec bytes)
+loader-tehilgam-pec bytes = one-answer _
 
-pub loader-refusal : (text : List ℕ) → One (λ r. r ≡ answerNumber (checkOf text .answer))
-loader-refusal text = one-answer _
+pub loader-tehilgam-refusal : (text : List ℕ) → One (λ r. r ≡ answerNumber (checkOf text .answer))
+loader-tehilgam-refusal text = one-answer _
 
-pub measured-run-with : (table : List ℕ) (register : ℕ) (bytes : List ℕ) → One (λ r. r ≡ runWith table register bytes)
-measured-run-with table register bytes = one-answer _
+pub measured-measured-run-with : (table : List ℕ) (register : ℕ) (bytes : List ℕ) → One (λ r. r ≡ runWith table register bytes)
+measured-measured-run-with table register bytes = one-answer _
+
+-- ---- dryrun
+
+pub dryrun-reply-at : (input : List ℕ) (at : ℕ) → One (λ r. r ≡ foundAt input at)
+dryrun-reply-at input at = one-answer _
+
+pub dryrun-parse : (input : List ℕ) → One (λ r. r ≡ inputOf input)
+dryrun-parse input = one-answer _
+
+pub dryrun-put-request : (out : List ℕ) (q : Request) → OnePut out 0 (requestLine q)
+dryrun-put-request out q = one-put
+
+pub dryrun-put-report : (out : List ℕ) (report : Report) → OnePut out 0 (reportLine report)
+dryrun-put-report out report = one-put
+
+pub dryrun-put-count : (out : List ℕ) (sent : ℕ) (burned : Bool) → OnePut out 0 (countLine sent burned)
+dryrun-put-count out sent burned = one-put

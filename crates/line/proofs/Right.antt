@@ -39,7 +39,7 @@ past-digits b h = simp (high 57 (omega arith), high 70 (omega arith), high 102 (
 
 pub keeps : {digits : List ℕ} → length digits ≡ 256 → follows digitVal 0 digits ≡ true → IsDigits digits
 unfolding digitBy
-keeps {digits} size e = record { entry = entry }
+keeps {digits} size e = record { size = size; entry = entry }
   where
     entry : (b : ℕ) → digitBy digits b ≡ digitVal b
     entry b =
