@@ -27,6 +27,7 @@ use Rattle.session.specs.Reply.{replyOf}
 use Rattle.session.specs.Reports.{reportOf}
 use Rattle.bus.specs.declared.Request.{Request}
 use Rattle.session.specs.declared.Report.{Report}
+use Rattle.measured.specs.Replies.{sentAfter}
 use Rattle.dryrun.specs.Parts.{foundAt, inputOf}
 use Rattle.dryrun.specs.Lines.{requestLine, reportLine, countLine}
 use Rattle.demands.proofs.Unique.{One, one-answer, OnePut}
@@ -111,6 +112,9 @@ loader-tehilgam-refusal text = one-answer _
 
 pub measured-measured-run-with : (table : List ℕ) (register : ℕ) (bytes : List ℕ) → One (λ r. r ≡ runWith table register bytes)
 measured-measured-run-with table register bytes = one-answer _
+
+pub measured-measured-replies : (text : List ℕ) (replies : ℕ) → One (λ r. r ≡ sentAfter text replies)
+measured-measured-replies text replies = one-answer _
 
 -- ---- dryrun
 

@@ -1,0 +1,139 @@
+//! One reply in the loop of write lines: the proved session, by an entry for measuring, against a plain one in Rust that does the
+//! same work for each reply: it looks at the state it holds, judges the reply, reads and checks the line that is due, and makes the
+//! request. Both start behind a check of the file, whose time is taken off.
+use std::hint::black_box;
+use std::time::Instant;
+
+#[link(name = "measured", kind = "static")]
+extern "C" {
+    fn measured_replies(text: *const u8, length: usize, replies: u32) -> u32;
+}
+
+const fn remainders() -> [u8; 256] {
+    let mut table = [0; 256];
+    let mut b = 0;
+    while b < 256 {
+        let mut c = b as u8;
+        let mut bit = 0;
+        while bit < 8 {
+            c = if c & 0x80 != 0 { c << 1 ^ 0x07 } else { c << 1 };
+            bit += 1;
+        }
+        table[b] = c;
+        b += 1;
+    }
+    table
+}
+
+static REMAINDERS: [u8; 256] = remainders();
+
+struct Held {
+    lines: u32,
+    configs: u32,
+    limit: u32,
+    polls: u32,
+    config: u32,
+    ids: [u8; 8],
+    line: u32,
+    place: usize,
+    sent: u32,
+    burned: bool,
+}
+
+struct Request {
+    bytes: [u8; 8],
+    used: u8,
+    reads: bool,
+}
+
+fn nibble(byte: u8) -> Option<u8> {
+    match byte {
+        b'0'..=b'9' => Some(byte - b'0'),
+        b'A'..=b'F' => Some(byte - b'A' + 10),
+        b'a'..=b'f' => Some(byte - b'a' + 10),
+        _ => None,
+    }
+}
+
+/// The bytes of the write line at a place, how many there are, and the place behind it.
+fn due(text: &[u8], place: usize) -> Option<([u8; 10], usize, usize)> {
+    let rest = text.get(place..)?;
+    if rest.is_empty() {
+        return None;
+    }
+    let length = rest.iter().position(|&byte| byte == b'\n');
+    let line = &rest[..length.unwrap_or(rest.len())];
+    let line = if length.is_some() { line.strip_suffix(b"\r").unwrap_or(line) } else { line };
+    if line.len() % 2 != 0 || line.len() < 10 || line.len() > 20 {
+        return None;
+    }
+    let mut bytes = [0; 10];
+    for (byte, pair) in bytes.iter_mut().zip(line.chunks_exact(2)) {
+        *byte = 16 * nibble(pair[0])? + nibble(pair[1])?;
+    }
+    let m = line.len() / 2;
+    let crc = bytes[2..m - 1].iter().fold(0, |crc, byte| REMAINDERS[(crc ^ byte) as usize]);
+    let form = bytes[0] == 0 && bytes[2] == 0xC0 && matches!((bytes[3], m - 5), (0xC7 | 0xE7, 2) | (0xC5 | 0xC6, 4));
+    (bytes[1] as usize + 2 == m && crc == bytes[m - 1] && form).then_some((bytes, m, place + length.map_or(rest.len(), |n| n + 1)))
+}
+
+#[inline(never)]
+fn reply(held: &mut Held, text: &[u8], kind: u8, bytes: &[u8]) -> Option<Request> {
+    let sound = (1..=10_000).contains(&held.limit)
+        && (1..=8).contains(&held.configs)
+        && held.lines == 12 + 363 * held.configs
+        && (5..=held.lines).contains(&held.line)
+        && held.config < held.configs
+        && held.polls < held.limit
+        && held.ids[..held.configs as usize].iter().all(|&id| id <= 15)
+        && held.sent <= held.lines + held.limit + 3 * held.configs + 9;
+    if !sound || kind != 1 || !bytes.is_empty() || held.line >= held.lines {
+        return None;
+    }
+    let (line, m, next) = due(text, held.place)?;
+    let burn = line[3] == 0xE7 && line[4] == 8 && line[5] == 0;
+    if burn != (held.line + 1 == held.lines) {
+        return None;
+    }
+    let mut request = Request { bytes: [0; 8], used: (m - 2) as u8, reads: false };
+    request.bytes[..m - 2].copy_from_slice(&line[2..m]);
+    held.line += 1;
+    held.place = next;
+    held.sent += 1;
+    held.burned |= burn;
+    Some(request)
+}
+
+fn plain(text: &[u8], lines: u32, replies: u32) -> u32 {
+    let place = text.iter().enumerate().filter(|(_, &byte)| byte == b'\n').nth(4).map_or(0, |(at, _)| at + 1);
+    let mut held =
+        Held { lines, configs: 8, limit: 1, polls: 0, config: 0, ids: [0, 1, 2, 3, 4, 5, 6, 7], line: 5, place, sent: 7, burned: false };
+    for _ in 0..replies {
+        if let Some(request) = reply(black_box(&mut held), black_box(text), 1, &[]) {
+            black_box((request.bytes, request.used, request.reads));
+        }
+    }
+    held.sent
+}
+
+fn least(mut run: impl FnMut() -> u32) -> f64 {
+    (0..9)
+        .map(|_| {
+            let start = Instant::now();
+            for _ in 0..20 {
+                black_box(run());
+            }
+            start.elapsed().as_secs_f64() * 1e9 / 20.0
+        })
+        .fold(f64::MAX, f64::min)
+}
+
+fn main() {
+    let text = std::fs::read(std::env::args().nth(1).expect("a file of eight configurations")).expect("the file is there");
+    let (lines, replies) = (2916, 2916 - 5);
+    let proved = |n| unsafe { measured_replies(black_box(&text).as_ptr(), text.len(), n) };
+    assert_eq!((proved(replies), plain(&text, lines, replies)), (7 + replies, 7 + replies));
+    let ours = (least(|| proved(replies)) - least(|| proved(0))) / f64::from(replies);
+    let theirs = (least(|| plain(&text, lines, replies)) - least(|| plain(&text, lines, 0))) / f64::from(replies);
+    println!("reply, a write line: proved {ours:.1} ns, plain {theirs:.1} ns, ratio {:.2}", ours / theirs);
+}
