@@ -9,7 +9,6 @@ use Rattle.counts.specs.declared.Kind.{Kind}
 use Rattle.line.specs.declared.Line.{Line}
 use Rattle.image.specs.declared.Refusal.{Refusal}
 use Rattle.image.specs.declared.Answer as image
-use Rattle.image.specs.declared.Summary.{Summary}
 use Rattle.image.specs.Says.{isBurn, noSummary}
 use Rattle.image.specs.Check.{refusalNumber, refusalLine, answerNumber, answerLine, checkOf}
 use Rattle.guide.specs.declared.Verdict.{Verdict}

@@ -2,7 +2,7 @@
 -- start from a summary that is the text's, and for `begin`. Assumes nothing.
 use mathlib.Core.Path.{_≡_}
 use mathlib.Core.Bool.{true, false}
-use mathlib.Core.List.{List, [], _++_}
+use mathlib.Core.List.{List, _++_}
 use Prim.Native.Nat.{ℕ, _+_, _*_, _≤_}
 use lib.Dec.{leb}
 use lib.ListN.{length}
@@ -11,7 +11,7 @@ use Rattle.image.specs.Check.{answerNumber, checkOf}
 use Rattle.bus.specs.declared.Request.{Request}
 use Rattle.bus.specs.Bus.{noRequest}
 use Rattle.guide.specs.declared.Verdict.{Verdict}
-use Rattle.guide.specs.declared.Verdict.the-variants.{Done, Setting, File}
+use Rattle.guide.specs.declared.Verdict.the-variants.{Done}
 use Rattle.guide.specs.Plan.{Reply, requests, verdict}
 use Rattle.guide.specs.Statements.{Gate, Burns, burnsIn}
 use Rattle.session.specs.declared.Settings.{Settings}

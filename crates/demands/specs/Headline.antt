@@ -1,12 +1,11 @@
--- The headline: why this fixture may send the last line. It stands alone: no tree, no state, no definition that the session or the
--- checker is made of; only the requests that were put out, the text, the settings and the replies. Assumes nothing.
+-- The headline: why this fixture may send the last line. It stands alone: no tree and no state, only the requests that were put out,
+-- the text, the settings and the replies. `Matched` names what the file says by `summaryOf`, which `SummarySays` (image) ties to the
+-- bytes of the lines. Assumes nothing.
 use mathlib.Core.Path.{_≡_}
 use mathlib.Core.Bool.{false}
 use mathlib.Core.List.{List, [], _∷_, _++_, List·Memᴰ}
 use Prim.Native.Nat.{ℕ, _-_, _≤_}
 use lib.ListN.{length, drop}
-use Rattle.line.specs.Lines.{linesOf}
-use Rattle.line.specs.Form.{Spells}
 use Rattle.image.specs.Says.{summaryOf}
 use Rattle.image.specs.Meets.{Meets}
 use Rattle.bus.specs.declared.Request.{Request}
