@@ -1,28 +1,15 @@
 //! The proved checker, by its C entry, against two plain ones in Rust on an accepted file of eight configurations, in one run:
 //! a straightforward one, which cuts, tests and then reads each line, and the fastest that we know, which looks every digit up in
 //! a table and reads a line while it scans it. Each is timed in turns, and the least of nine turns counts.
+mod plain;
+
+use plain::{nibble, REMAINDERS};
 use std::hint::black_box;
 use std::time::Instant;
 
 #[link(name = "loader", kind = "static")]
 extern "C" {
     fn tehilgam_refusal(text: *const u8, length: usize) -> u8;
-}
-
-const fn remainders() -> [u8; 256] {
-    let mut table = [0; 256];
-    let mut b = 0;
-    while b < 256 {
-        let mut c = b as u8;
-        let mut bit = 0;
-        while bit < 8 {
-            c = if c & 0x80 != 0 { c << 1 ^ 0x07 } else { c << 1 };
-            bit += 1;
-        }
-        table[b] = c;
-        b += 1;
-    }
-    table
 }
 
 const fn digit_values() -> [u8; 256] {
@@ -36,7 +23,6 @@ const fn digit_values() -> [u8; 256] {
     table
 }
 
-static REMAINDERS: [u8; 256] = remainders();
 static DIGITS: [u8; 256] = digit_values();
 
 const PARTS: [u8; 29] = [
@@ -122,15 +108,6 @@ impl Whole {
             return 13;
         }
         0
-    }
-}
-
-fn nibble(byte: u8) -> Option<u8> {
-    match byte {
-        b'0'..=b'9' => Some(byte - b'0'),
-        b'A'..=b'F' => Some(byte - b'A' + 10),
-        b'a'..=b'f' => Some(byte - b'a' + 10),
-        _ => None,
     }
 }
 

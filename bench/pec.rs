@@ -1,5 +1,8 @@
 //! The PEC by the proved functions against a plain table-driven loop in Rust, in one run: 64 KiB by the C entry, and 8 bytes by
 //! a table that is made once and lent. Each pair is timed in turns, and the least of nine turns counts.
+mod plain;
+
+use plain::REMAINDERS;
 use std::hint::black_box;
 use std::time::Instant;
 
@@ -13,27 +16,9 @@ extern "C" {
     fn measured_run_with(table: *const [u8; 256], register: u8, bytes: *const u8, length: usize) -> u8;
 }
 
-const fn remainders() -> [u8; 256] {
-    let mut table = [0; 256];
-    let mut b = 0;
-    while b < 256 {
-        let mut c = b as u8;
-        let mut bit = 0;
-        while bit < 8 {
-            c = if c & 0x80 != 0 { c << 1 ^ 0x07 } else { c << 1 };
-            bit += 1;
-        }
-        table[b] = c;
-        b += 1;
-    }
-    table
-}
-
-static TABLE: [u8; 256] = remainders();
-
 #[inline(never)]
 fn plain(bytes: &[u8]) -> u8 {
-    bytes.iter().fold(0, |crc, byte| TABLE[(crc ^ byte) as usize])
+    bytes.iter().fold(0, |crc, byte| REMAINDERS[(crc ^ byte) as usize])
 }
 
 #[inline(never)]
@@ -71,8 +56,8 @@ fn main() {
     compare(
         "8 bytes by a lent table",
         2_000_000,
-        || unsafe { measured_run_with(black_box(&TABLE), 0, black_box(short).as_ptr(), short.len()) },
-        || plain_lent(black_box(&TABLE), black_box(short)),
+        || unsafe { measured_run_with(black_box(&REMAINDERS), 0, black_box(short).as_ptr(), short.len()) },
+        || plain_lent(black_box(&REMAINDERS), black_box(short)),
     );
     compare(
         "8 bytes by the C entry, which makes the table",

@@ -1,6 +1,9 @@
 //! One reply in the loop of write lines: the proved session, by an entry for measuring, against a plain one in Rust that does the
 //! same work for each reply: it looks at the state it holds, judges the reply, reads and checks the line that is due, and makes the
 //! request. Both start behind a check of the file, whose time is taken off.
+mod plain;
+
+use plain::{nibble, REMAINDERS};
 use std::hint::black_box;
 use std::time::Instant;
 
@@ -8,24 +11,6 @@ use std::time::Instant;
 extern "C" {
     fn measured_replies(text: *const u8, length: usize, replies: u32) -> u32;
 }
-
-const fn remainders() -> [u8; 256] {
-    let mut table = [0; 256];
-    let mut b = 0;
-    while b < 256 {
-        let mut c = b as u8;
-        let mut bit = 0;
-        while bit < 8 {
-            c = if c & 0x80 != 0 { c << 1 ^ 0x07 } else { c << 1 };
-            bit += 1;
-        }
-        table[b] = c;
-        b += 1;
-    }
-    table
-}
-
-static REMAINDERS: [u8; 256] = remainders();
 
 struct Held {
     lines: u32,
@@ -44,15 +29,6 @@ struct Request {
     bytes: [u8; 8],
     used: u8,
     reads: bool,
-}
-
-fn nibble(byte: u8) -> Option<u8> {
-    match byte {
-        b'0'..=b'9' => Some(byte - b'0'),
-        b'A'..=b'F' => Some(byte - b'A' + 10),
-        b'a'..=b'f' => Some(byte - b'a' + 10),
-        _ => None,
-    }
 }
 
 /// The bytes of the write line at a place, how many there are, and the place behind it.
