@@ -14,11 +14,15 @@ find_kit() {
     [ -x "$kit_emulator" ] || kit_emulator=''
 }
 
+install_package() { # PACKAGE
+    echo "installing the package $1"
+    { apt-get update && apt-get install -y --no-install-recommends "$1"; } >/dev/null 2>&1
+}
+
 # Installs a Debian package where the command is missing.
 need() { # COMMAND PACKAGE
     command -v "$1" >/dev/null 2>&1 && return 0
-    echo "installing $2, since $1 is missing"
-    { apt-get update && apt-get install -y --no-install-recommends "$2"; } >/dev/null 2>&1
+    install_package "$2"
     command -v "$1" >/dev/null 2>&1 || { complain "$1 is missing, and the package $2 could not be installed"; return 1; }
 }
 
@@ -30,7 +34,8 @@ run_x86() { # PROGRAM [WORDS...]
 # Compiles one C file for x86-64 and links it with an archive that `rt staticlib` wrote. On another processor the kit's clang
 # compiles it, with the headers of this machine's C compiler, and the kit's linker and C library link it.
 link_c() { # OUT SOURCE ARCHIVE
-    need gcc gcc && [ -f /usr/include/stdio.h ] || need gcc libc6-dev || return 1
+    need gcc gcc || return 1
+    [ -f /usr/include/stdio.h ] || install_package libc6-dev
     if [ "$(uname -m)" = x86_64 ]; then
         gcc -std=c11 -O2 -Wall -Wextra -Iinclude -o "$1" "$2" "$3"
     else
