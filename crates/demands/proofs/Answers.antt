@@ -2,9 +2,11 @@
 -- lowest first, and their PEC. Assumes nothing.
 use mathlib.Core.Path.{_≡_, ap, _∙_}
 use mathlib.Core.Bool.{Bool, true, false}
-use mathlib.Core.List.{List, [], _∷_, _++_}
+use mathlib.Core.List.{List, [], _∷_, _++_, List·Memᴰ, List·Memᴰ·head, List·Memᴰ·tail, List·Memᴰ·not-nil}
 use Prim.Native.Nat.{ℕ, zero, suc, _+_, _%_, _/_, _<_}
 use native.Mathlib.Omega.{arith}
+use lib.ListN.{getD}
+use Rattle.pec.proofs.Laws.{pec-lt}
 use Rattle.line.specs.declared.Line.{Line}
 use Rattle.image.specs.declared.Summary.{Summary}
 use Rattle.bus.specs.declared.Form.the-variants.{Good}
@@ -16,12 +18,27 @@ use Rattle.guide.specs.Plan.{Reply}
 use Rattle.guide.specs.Guide.{lineRequest, crcIn}
 use Rattle.guide.specs.Matched.{Exchange, wrote, got, Answered, none, more, opening}
 use Rattle.guide.specs.Statements.{heard3, heard6}
+use Rattle.demands.specs.Demands.{OfBytes}
 
 abbrev Can : Exchange → Type 0
-Can x = (r : Reply) × (formOf (x .request) (r .kind) (r .bytes) ≡ Good (x .word))
+Can x = (r : Reply) × (formOf (x .request) (r .kind) (r .bytes) ≡ Good (x .word)) × OfBytes r
 
 abbrev done : List ℕ → Reply
 done bs = record { kind = 1; bytes = bs }
+
+-- ---- lists of bytes
+
+data Bytes : List ℕ → Type 0 where
+  empty : Bytes []
+  byte : (b : ℕ) {bs : List ℕ} → b < 256 → Bytes bs → Bytes (b ∷ bs)
+
+each-byte : {bs : List ℕ} → Bytes bs → (i : ℕ) → getD bs i 0 < 256
+each-byte empty i = omega arith
+each-byte (byte b h f) zero = h
+each-byte (byte b h f) (suc i) = each-byte f i
+
+of-bytes : {bs : List ℕ} → Bytes bs → OfBytes (done bs)
+of-bytes f = record { kind = omega arith; bytes = each-byte f }
 
 -- ---- the exchanges that have a reply
 
@@ -33,15 +50,21 @@ pub able-both : {xs ys : List Exchange} → Able xs → Able ys → Able (xs ++ 
 able-both end b = b
 able-both (and c a) b = and c (able-both a b)
 
-pub able-answered : {xs : List Exchange} → Able xs → (rs : List Reply) × Answered xs rs
-able-answered end = ([], none [])
-able-answered (and {x} {xs} c a) = let b = able-answered a in (c .0 ∷ b .0, more x xs (c .0) (b .0) (c .1) (b .1))
+pub able-answered : {xs : List Exchange} → Able xs → (rs : List Reply) × Answered xs rs × ((r : Reply) → List·Memᴰ r rs → OfBytes r)
+able-answered end = ([], none [], λ r m. absurd (List·Memᴰ·not-nil m))
+able-answered (and {x} {xs} c a) =
+    let b = able-answered a in
+    (c .0 ∷ b .0, more x xs (c .0) (b .0) (c .1) (b .1), all (c .2) (b .2))
+  where
+    all : {r : Reply} {rs : List Reply} → OfBytes r → ((q : Reply) → List·Memᴰ q rs → OfBytes q) → (q : Reply) → List·Memᴰ q (r ∷ rs) → OfBytes q
+    all h f q (List·Memᴰ·head e) = rw e h
+    all h f q (List·Memᴰ·tail m) = f q m
 
 -- ---- each kind of exchange
 
 pub can-write : (sent : List ℕ) (p : ℕ) → Can (wrote (framed sent p))
 unfolding Means Says
-can-write sent p = (done [], form-means (write sent p) 1 [] (Good 0) .1 (wroteBytes sent p))
+can-write sent p = (done [], form-means (write sent p) 1 [] (Good 0) .1 (wroteBytes sent p), of-bytes empty)
 
 module _ (w : ℕ) (h : w < 4294967296) where
   abbrev a : ℕ
@@ -56,11 +79,16 @@ module _ (w : ℕ) (h : w < 4294967296) where
   abbrev d : ℕ
   d = w / 256 / 256 / 256 % 256
 
+  -- the word's bytes, and a PEC behind them
+  word-bytes : (p : ℕ) → p < 256 → Bytes (a ∷ b ∷ c ∷ d ∷ p ∷ [])
+  word-bytes p h = byte a (omega arith) (byte b (omega arith) (byte c (omega arith) (byte d (omega arith) (byte p h empty))))
+
   pub can-read : Can (got readData w)
   unfolding Means Says
   can-read = (
     done (a ∷ b ∷ c ∷ d ∷ registerPec a b c d ∷ []),
     form-means register 1 _ (Good _) .1 (registerRead a b c d) ∙ ap Good (omega arith),
+    of-bytes (word-bytes _ (pec-lt _)),
   )
 
   pub can-block : (command : ℕ) → Can (got (readBlock command) w)
@@ -68,6 +96,7 @@ module _ (w : ℕ) (h : w < 4294967296) where
   can-block command = (
     done (4 ∷ a ∷ b ∷ c ∷ d ∷ blockPec command a b c d ∷ []),
     form-means (block command) 1 _ (Good _) .1 (blockRead command a b c d) ∙ ap Good (omega arith),
+    of-bytes (byte 4 (omega arith) (word-bytes _ (pec-lt _))),
   )
 
 -- ---- the steps

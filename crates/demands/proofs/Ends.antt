@@ -2,7 +2,7 @@
 -- the burn put out. Assumes nothing.
 use mathlib.Core.Path.{_≡_, refl, ap, _∙_}
 use mathlib.Core.Bool.{Bool, true, false, cond}
-use mathlib.Core.List.{List, [], _∷_, _++_}
+use mathlib.Core.List.{List, [], _∷_, _++_, List·Memᴰ}
 use Prim.Native.Nat.{ℕ, _<_}
 use native.Mathlib.Omega.{arith}
 use Rattle.image.specs.declared.Summary.{Summary}
@@ -22,7 +22,7 @@ use Rattle.guide.proofs.Ending.{leading, done-exactly}
 use Rattle.guide.proofs.OfText.{accepted-burns}
 use Rattle.session.specs.declared.Settings.{Settings}
 use Rattle.demands.specs.Runs.{guideOf, answerFor}
-use Rattle.demands.specs.Demands.{Premises, CanEnd}
+use Rattle.demands.specs.Demands.{Premises, OfBytes, CanEnd}
 use Rattle.demands.proofs.Ready.{taken, told, meets, kept}
 use Rattle.demands.proofs.Same.{demand2}
 use Rattle.demands.proofs.Held.{demand3}
@@ -87,6 +87,10 @@ module _ (S : Settings) (text : List ℕ) (P : Premises S text) where
   unfolding rs
   all-answered = able-answered able .1
 
+  possible : (r : Reply) → List·Memᴰ r rs → OfBytes r
+  unfolding rs
+  possible = able-answered able .2
+
   match : Matched file (S .wanted) rs
   match =
       record {
@@ -130,6 +134,7 @@ module _ (S : Settings) (text : List ℕ) (P : Premises S text) where
       = accepted-burns text (taken S text P) (S .wanted) (S .limit) (S .restore) rs .once match (form-cut (file .lines) in-form) in
       record {
         replies = rs;
+        possible = possible;
         done = demand2 S text P rs .sameAnswer ∙ ap answerFor (done-exactly text (S .wanted) (S .limit) (S .restore) rs .when-done done-when);
         burned = demand3 S text P rs .reports ∙ rw once;
       }

@@ -2,10 +2,10 @@
 -- start from a summary that is the text's, and for `begin`. Assumes nothing.
 use mathlib.Core.Path.{_≡_}
 use mathlib.Core.Bool.{true, false}
-use mathlib.Core.List.{List, _++_}
-use Prim.Native.Nat.{ℕ, _+_, _*_, _≤_}
+use mathlib.Core.List.{List, _++_, List·Memᴰ}
+use Prim.Native.Nat.{ℕ, _+_, _*_, _≤_, _<_}
 use lib.Dec.{leb}
-use lib.ListN.{length}
+use lib.ListN.{length, getD}
 use Rattle.image.specs.Says.{summaryOf}
 use Rattle.image.specs.Check.{answerNumber, checkOf}
 use Rattle.bus.specs.declared.Request.{Request}
@@ -64,8 +64,14 @@ module _ (S : Settings) (text : List ℕ) (rs : List Reply) (start : Handed) whe
     -- at most lines + poll limit + 3 x configurations + 9
     pub bound : length (sent text start rs) ≤ summaryOf text .lines + S .limit + 3 * summaryOf text .configs + 9
 
+-- a reply that a bus can give: its kind and its bytes are bytes
+pub record OfBytes (r : Reply) : Type 0 where
+  pub kind : r .kind < 256
+  pub bytes : (i : ℕ) → getD (r .bytes) i 0 < 256
+
 -- ---- not empty: there are replies with which the session ends DONE with the burn put out
 pub record CanEnd (S : Settings) (text : List ℕ) : Type 0 where
   pub replies : List Reply
+  pub possible : (r : Reply) → List·Memᴰ r replies → OfBytes r
   pub done : after text (beginOf S text) replies .answer ≡ Over Done
   pub burned : after text (beginOf S text) replies .session .burned ≡ true
