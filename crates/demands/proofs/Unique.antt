@@ -38,7 +38,7 @@ OnePut out at bs = (after later : List ℕ) (r q : ℕ) → Puts out at bs after
 
 -- ---- pec
 
-pub pec-table : One IsTable
+pub pec-table : One (λ r. IsTable r)
 pec-table = one-table
 
 pub pec-step-with : (table : List ℕ) (register byte : ℕ) → One (λ r. r ≡ stepWith table register byte)
@@ -61,11 +61,11 @@ pec-of bytes = one-answer _
 pub bus-Bus-write1 : (command a : ℕ) → One (λ r. r ≡ writeOf command (a ∷ []))
 bus-Bus-write1 command a = one-answer _
 
-pub bus-Bus-framed2 : (command a b p : ℕ) → One (λ r. r ≡ framed (0xC0 ∷ command ∷ a ∷ b ∷ []) p)
-bus-Bus-framed2 command a b p = one-answer _
+pub bus-Bus-framed2 : (command a b pec : ℕ) → One (λ r. r ≡ framed (0xC0 ∷ command ∷ a ∷ b ∷ []) pec)
+bus-Bus-framed2 command a b pec = one-answer _
 
-pub bus-Bus-framed4 : (command a b c d p : ℕ) → One (λ r. r ≡ framed (0xC0 ∷ command ∷ a ∷ b ∷ c ∷ d ∷ []) p)
-bus-Bus-framed4 command a b c d p = one-answer _
+pub bus-Bus-framed4 : (command a b c d pec : ℕ) → One (λ r. r ≡ framed (0xC0 ∷ command ∷ a ∷ b ∷ c ∷ d ∷ []) pec)
+bus-Bus-framed4 command a b c d pec = one-answer _
 
 pub bus-Bus-write2 : (command a b : ℕ) → One (λ r. r ≡ writeOf command (a ∷ b ∷ []))
 bus-Bus-write2 command a b = one-answer _
@@ -139,7 +139,7 @@ text-put-decimal out at n = one-put
 pub line-Fault-number : (self : Fault) → One (λ r. r ≡ faultNumber self)
 line-Fault-number self = one-answer _
 
-pub line-digits : One IsDigits
+pub line-digits : One (λ r. IsDigits r)
 unfolding digitBy
 line-digits r q e f =
     ext-getD 0 r q (e .size ∙ sym (f .size)) λ i h.

@@ -89,8 +89,8 @@ guide-line-request line = one-answer _
 pub session-Settings-allowed : (self : Settings) → One (λ r. r ≡ allowedOf self)
 session-Settings-allowed self = one-answer _
 
-pub session-Settings-begin : (S : Settings) (text : List ℕ) → One (λ r. r ≡ beginOf S text)
-session-Settings-begin S text = one-answer _
+pub session-Settings-begin : (self : Settings) (text : List ℕ) → One (λ r. r ≡ beginOf self text)
+session-Settings-begin self text = one-answer _
 
 pub session-Session-reply : (text : List ℕ) (self : Session) (kind : ℕ) (bytes : List ℕ) → One (λ r. r ≡ replyOf text self kind bytes)
 session-Session-reply text self kind bytes = one-answer _
