@@ -11,17 +11,18 @@ use Rattle.line.proofs.Basics.{split}
 use Rattle.bus.specs.declared.Request.{Request}
 use Rattle.session.specs.declared.Report.{Report}
 use Rattle.session.specs.declared.Report.the-variants.{Waiting, Is}
+use Rattle.text.specs.Text.{bytesOf}
 use Rattle.text.proofs.Laws.{digits-length, decimal-length}
-use Rattle.dryrun.specs.Lines.{word, upTo8, usedHex, requestLine, reportLine, mark, countLine}
+use Rattle.dryrun.specs.Lines.{verb, atMost8, usedHex, requestLine, reportLine, mark, countLine}
 
-pub word-length : (reads : Bool) → length (word reads) ≤ 6
-unfolding word
-word-length true = omega arith
-word-length false = omega arith
+pub verb-length : (reads : Bool) → length (verb reads) ≤ 6
+unfolding verb bytesOf
+verb-length true = omega arith
+verb-length false = omega arith
 
-pub up-to-8 : (used : ℕ) → upTo8 used ≤ 8
-unfolding upTo8
-up-to-8 used = split (ltb used 8) (λ t. rw t (omega (arith, ltb-true used 8 t))) (λ t. rw t (omega arith))
+pub at-most-8 : (used : ℕ) → atMost8 used ≤ 8
+unfolding atMost8
+at-most-8 used = split (ltb used 8) (λ t. rw t (omega (arith, ltb-true used 8 t))) (λ t. rw t (omega arith))
 
 pub used-length : (bs : List ℕ) (i : ℕ) → length (usedHex bs i) ≡ 2 * i
 unfolding usedHex
@@ -29,21 +30,21 @@ used-length bs zero = refl
 used-length bs (suc i) = simp (length-append, digits-length) (omega (arith, used-length bs i))
 
 pub request-length : (q : Request) → length (requestLine q) ≤ 32
-unfolding requestLine
+unfolding requestLine bytesOf
 request-length q =
-    simp length-append (omega (arith, word-length (q .reads), used-length (q .bytes) (upTo8 (q .used)), up-to-8 (q .used)))
+    simp length-append (omega (arith, verb-length (q .reads), used-length (q .bytes) (atMost8 (q .used)), at-most-8 (q .used)))
 
 pub report-length : (r : Report) → length (reportLine r) ≤ 64
-unfolding reportLine
+unfolding reportLine bytesOf
 report-length Waiting = omega arith
 report-length (Is number line config) =
     simp length-append (omega (arith, decimal-length number, decimal-length (config .0), decimal-length (line .0)))
 
 mark-length : (burned : Bool) → length (mark burned) ≤ 2
-unfolding mark
+unfolding mark bytesOf
 mark-length true = omega arith
 mark-length false = omega arith
 
 pub count-length : (sent : ℕ) (burned : Bool) → length (countLine sent burned) ≤ 64
-unfolding countLine
+unfolding countLine bytesOf
 count-length sent burned = simp length-append (omega (arith, decimal-length sent, mark-length burned))

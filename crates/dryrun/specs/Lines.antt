@@ -1,4 +1,4 @@
--- The lines that a dry run writes. Words are lists of ASCII codes, with the word above them. Assumes nothing.
+-- The lines that a dry run writes. Assumes nothing.
 use Prim.Native.Nat.{ℕ, zero, suc}
 use mathlib.Core.Bool.{Bool, true, false, cond}
 use mathlib.Core.List.{List, [], _∷_, _++_}
@@ -7,17 +7,19 @@ use lib.ListN.{getD}
 use Rattle.bus.specs.declared.Request.{Request}
 use Rattle.session.specs.declared.Report.{Report}
 use Rattle.session.specs.declared.Report.the-variants.{Waiting, Is}
-use Rattle.text.specs.Text.{hex, decimal}
+use Rattle.text.specs.Text.{bytesOf, hex, decimal}
 
-unfoldable pub word : Bool → List ℕ
--- read
-word true = 114 ∷ 101 ∷ 97 ∷ 100 ∷ 32 ∷ []
--- write
-word false = 119 ∷ 114 ∷ 105 ∷ 116 ∷ 101 ∷ 32 ∷ []
+-- LF
+abbrev pub lineEnd : List ℕ
+lineEnd = 10 ∷ []
+
+unfoldable pub verb : Bool → List ℕ
+verb true = bytesOf "read "
+verb false = bytesOf "write "
 
 -- a request has eight bytes, also where more are said to be used
-unfoldable pub upTo8 : ℕ → ℕ
-upTo8 used = cond (ltb used 8) used 8
+unfoldable pub atMost8 : ℕ → ℕ
+atMost8 used = cond (ltb used 8) used 8
 
 -- two capital hex digits for each used byte
 unfoldable pub usedHex : List ℕ → ℕ → List ℕ
@@ -25,21 +27,18 @@ usedHex bs zero = []
 usedHex bs (suc i) = usedHex bs i ++ hex 2 (getD bs i 0)
 
 unfoldable pub requestLine : Request → List ℕ
-requestLine q = word (q .reads) ++ usedHex (q .bytes) (upTo8 (q .used)) ++ (10 ∷ [])
+requestLine q = verb (q .reads) ++ usedHex (q .bytes) (atMost8 (q .used)) ++ lineEnd
 
 unfoldable pub reportLine : Report → List ℕ
--- waiting
-reportLine Waiting = 119 ∷ 97 ∷ 105 ∷ 116 ∷ 105 ∷ 110 ∷ 103 ∷ 10 ∷ []
+reportLine Waiting = bytesOf "waiting" ++ lineEnd
 -- verdict NUMBER config N line LINE
 reportLine (Is number line config) =
-    (118 ∷ 101 ∷ 114 ∷ 100 ∷ 105 ∷ 99 ∷ 116 ∷ 32 ∷ []) ++ decimal number ++ (32 ∷ 99 ∷ 111 ∷ 110 ∷ 102 ∷ 105 ∷ 103 ∷ 32 ∷ [])
-    ++ decimal (config .0) ++ (32 ∷ 108 ∷ 105 ∷ 110 ∷ 101 ∷ 32 ∷ []) ++ decimal (line .0) ++ (10 ∷ [])
+    bytesOf "verdict " ++ decimal number ++ bytesOf " config " ++ decimal (config .0) ++ bytesOf " line " ++ decimal (line .0) ++ lineEnd
 
 unfoldable pub mark : Bool → List ℕ
-mark true = 49 ∷ 10 ∷ []
-mark false = 48 ∷ 10 ∷ []
+mark true = bytesOf "1" ++ lineEnd
+mark false = bytesOf "0" ++ lineEnd
 
 -- count COUNT burn BURN
 unfoldable pub countLine : ℕ → Bool → List ℕ
-countLine sent burned =
-    (99 ∷ 111 ∷ 117 ∷ 110 ∷ 116 ∷ 32 ∷ []) ++ decimal sent ++ (32 ∷ 98 ∷ 117 ∷ 114 ∷ 110 ∷ 32 ∷ []) ++ mark burned
+countLine sent burned = bytesOf "count " ++ decimal sent ++ bytesOf " burn " ++ mark burned

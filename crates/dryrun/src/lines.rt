@@ -8,10 +8,11 @@ ghost use mathlib.Core.Path.{_≡_};
 ghost use Prim.Native.Nat.{_+_, _≤_};
 ghost use lib.ListN.{length};
 ghost use Rattle.text.specs.Text.{Puts};
-ghost use Rattle.dryrun.specs.Lines.{word, upTo8, usedHex, requestLine, reportLine, mark, countLine};
+ghost use Rattle.dryrun.specs.Lines.{verb, atMost8, usedHex, requestLine, reportLine, mark, countLine};
 
-fn put_word(out: &mut [u8], at: usize, reads: bool) -> usize
-    ensures { λ r. ⌜ Puts (now (out .entry)) at (word reads) (now (out .exit)) r ⌝ }
+// Whether it reads, in a word.
+fn put_verb(out: &mut [u8], at: usize, reads: bool) -> usize
+    ensures { λ r. ⌜ Puts (now (out .entry)) at (verb reads) (now (out .exit)) r ⌝ }
 {
     if reads {
         put_bytes(out, at, b"read ")
@@ -36,7 +37,7 @@ fn put_used(out: &mut [u8], at: usize, bytes: [u8; 8], used: usize) -> usize
 
 // A request has eight bytes, also where more are said to be used.
 fn at_most_8(used: u8) -> usize
-    ensures { λ r. ⌜ r ≡ upTo8 used ⌝ }
+    ensures { λ r. ⌜ r ≡ atMost8 used ⌝ }
 {
     if used < 8 { used as usize } else { 8 }
 }
@@ -46,7 +47,7 @@ pub fn put_request(out: &mut [u8; 32], q: Request) -> usize
     ensures { λ r. ⌜ Puts (now (out .entry)) 0 (requestLine q) (now (out .exit)) r ⌝ }
 {
     let bytes = q.bytes;
-    let a = put_word(out, 0, q.reads);
+    let a = put_verb(out, 0, q.reads);
     let b = put_used(out, a, bytes, at_most_8(q.used));
     put_bytes(out, b, b"\n")
 }

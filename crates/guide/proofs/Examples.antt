@@ -8,7 +8,8 @@ use Rattle.line.specs.Reading.{lineOf, badPairs, someTo32, headOk, bodyOk, form
 use Rattle.image.specs.Says.{word, crcOf}
 use Rattle.bus.specs.Bus.{eight, readOf}
 use Rattle.bus.specs.Form.{wordAt, sealedOf, readForm, doneForm, formOf}
-use Rattle.guide.specs.Examples.{bytesOf, Holds, twelve, Hold}
+use Rattle.text.specs.Text.{bytesOf}
+use Rattle.guide.specs.Examples.{Holds, twelve, Hold}
 
 pub examples-hold : Hold twelve
 unfolding Hold Holds bytesOf readLine readDigits readValues allDigits valuesOf pairVal digitVal badPairs lengthRight crcRight formRight formOk headOk bodyOk someTo32 lineOf crcOf word formOf doneForm readForm sealedOf wordAt readOf eight pecFrom step remainder shifts shift topBit

@@ -3,8 +3,8 @@
 use mathlib.Core.Path.{_≡_}
 use mathlib.Core.List.{List, [], _∷_, _++_}
 use Prim.Native.Nat.{ℕ}
-use Prim.Native.Char.{code}
-use Prim.Native.String.{String, [] as noText, _∷_ as _then_}
+use Prim.Native.String.{String}
+use Rattle.text.specs.Text.{bytesOf}
 use Rattle.counts.specs.Counts.{lineNumber}
 use Rattle.line.specs.declared.Line.{Line}
 use Rattle.line.specs.declared.Fault.{Fault}
@@ -15,11 +15,6 @@ use Rattle.bus.specs.declared.Request.{Request}
 use Rattle.bus.specs.declared.Form.the-variants as form
 use Rattle.bus.specs.Bus.{readData, readBlock}
 use Rattle.bus.specs.Form.{formOf}
-
--- a text's bytes
-unfoldable pub bytesOf : String → List ℕ
-bytesOf noText = []
-bytesOf (c then s) = code c ∷ bytesOf s
 
 pub data Example : Type 0 where
   -- as line n, the text is good and says this

@@ -10,6 +10,7 @@ use Rattle.counts.specs.Counts.{configId}
 use Rattle.image.specs.declared.Refusal.{Refusal}
 use Rattle.image.specs.declared.Summary.{Summary}
 use Rattle.image.specs.Check.{refusalNumber, refusalLine}
+use Rattle.text.specs.Text.{bytesOf}
 use Rattle.text.proofs.Laws.{digits-length, decimal-length}
 use Rattle.shown.specs.Shown.{kindName, rowOf, rowsTo, headOf, acceptedText, refusedText}
 
@@ -23,17 +24,17 @@ rows-length s zero = refl
 rows-length s (suc n) = simp length-append (omega (arith, rows-length s n, row-length (getD (s .ids) n (configId 0)) (getD (s .crcs) n 0)))
 
 kind-length : (kind : Kind) → length (kindName kind) ≤ 10
-unfolding kindName
+unfolding kindName bytesOf
 kind-length Legacy = omega arith
 kind-length Production = omega arith
 
 pub head-length : (s : Summary) → length (headOf s) ≤ 48
-unfolding headOf
+unfolding headOf bytesOf
 head-length s =
     simp (length-append, digits-length) (omega (arith, kind-length (s .kind), decimal-length (s .lines), decimal-length (s .configs)))
 
 pub refused-length : (r : Refusal) → length (refusedText r) ≤ 136
-unfolding refusedText
+unfolding refusedText bytesOf
 refused-length r = simp length-append (omega (arith, decimal-length (refusalNumber r), decimal-length (refusalLine r .0)))
 
 pub accepted-length : (s : Summary) → s .configs ≤ 8 → length (acceptedText s) ≤ 136

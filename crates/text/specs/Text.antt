@@ -1,10 +1,17 @@
--- Numbers as text, and text at a place of a buffer. Assumes nothing.
+-- Texts and numbers as bytes, and bytes at a place of a buffer. Assumes nothing.
 use mathlib.Core.Path.{_≡_}
 use Prim.Native.Nat.{ℕ, zero, suc, _+_, _/_, _%_}
 use mathlib.Core.Bool.{Bool, cond}
 use mathlib.Core.List.{List, [], _∷_, _++_}
 use lib.Dec.{eqb, ltb, leb}
 use lib.ListN.{length, take, drop}
+use Prim.Native.Char.{code}
+use Prim.Native.String.{String, [] as noText, _∷_ as _then_}
+
+-- a text's bytes
+unfoldable pub bytesOf : String → List ℕ
+bytesOf noText = []
+bytesOf (c then s) = code c ∷ bytesOf s
 
 -- the ASCII code of a digit: 0 to 9, then A to F
 unfoldable pub glyph : ℕ → ℕ

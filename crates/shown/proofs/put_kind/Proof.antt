@@ -1,4 +1,5 @@
 -- Each kind's own name. Assumes nothing.
+use Rattle.text.specs.Text.{bytesOf}
 use Rattle.shown.specs.Shown.{kindName}
 use borrow.Author.Needs.{needs}
 use Rattle.shown.proofs.put_kind.Statement.{statement}
@@ -26,14 +27,14 @@ same-length : tie.Need-same-length
 same-length c = search needs
 
 returns : tie.Need-returns
-unfolding kindName
+unfolding kindName bytesOf
 returns c = rw (c .before .before .before .before .before .enum-told .given .1) (c .before .before .put-bytes .ensures)
 
 same-length-2 : tie.Need-same-length-2
 same-length-2 c = search needs
 
 returns-2 : tie.Need-returns-2
-unfolding kindName
+unfolding kindName bytesOf
 returns-2 c = rw (c .before .before .before .before .before .enum-told2 .given .1) (c .before .before .put-bytes2 .ensures)
 
 pub put-kind-spec : {M : Type 1} → statement M

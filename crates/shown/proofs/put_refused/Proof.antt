@@ -1,6 +1,7 @@
 -- The parts are put one behind the other; number and line are those that the refusal gives. Assumes nothing.
 use native.Mathlib.Omega.{arith}
 use Rattle.text.proofs.Laws.{run-one, run-more}
+use Rattle.text.specs.Text.{bytesOf}
 use Rattle.shown.specs.Shown.{refusedText}
 use Rattle.shown.proofs.Lengths.{refused-length}
 use borrow.Author.Needs.{needs}
@@ -44,10 +45,23 @@ same-length : tie.Need-same-length
 same-length c = search needs
 
 returns : tie.Need-returns
-unfolding refusedText
+unfolding refusedText bytesOf
 returns c =
-    let room = refused-length (c .before .before .before .before .before .before .before .before .before .before .before .before .before .before .before .before .before .before .before .before .before .before .before .before .before .before .args .r) in
-    rw (← c .before .before .before .before .before .before .before .before .before .before .before .before .before .before .before .before .before .before .number .ensures, ← c .before .before .before .before .before .before .before .before .before .line .ensures) ((run-more (run-more (run-more (run-more (run-one (c .before .before .before .before .before .before .before .before .before .before .before .before .before .before .before .before .before .before .before .before .before .before .put-bytes .ensures)) (c .before .before .before .before .before .before .before .before .before .before .before .before .before .before .before .before .before .put-decimal .ensures)) (c .before .before .before .before .before .before .before .before .before .before .before .before .put-bytes2 .ensures)) (c .before .before .before .before .before .before .before .put-decimal2 .ensures)) (c .before .before .put-bytes3 .ensures)) .fitting (rw (c .before .before .before .before .before .before .before .before .before .before .before .before .before .before .before .before .before .before .number .ensures, c .before .before .before .before .before .before .before .before .before .line .ensures) (omega (arith, room, c .before .before .before .before .before .before .before .before .before .before .before .before .before .before .before .before .before .before .before .before .before .before .before .before .before .before .pre))))
+    let end = c .before .before in
+    let line = end .before .before .before .before .before in
+    let told = line .before .before in
+    let word = told .before .before .before in
+    let number = word .before .before .before .before .before in
+    let given = number .before in
+    let refused = given .before .before .before .before in
+    let start = refused .before .before .before .before in
+    let r0 = run-one (refused .put-bytes .ensures) in
+    let r1 = run-more r0 (number .put-decimal .ensures) in
+    let r2 = run-more r1 (word .put-bytes2 .ensures) in
+    let r3 = run-more r2 (line .put-decimal2 .ensures) in
+    let r4 = run-more r3 (end .put-bytes3 .ensures) in
+    rw (← given .number .ensures, ← told .line .ensures)
+    (r4 .fitting (rw (given .number .ensures, told .line .ensures) (omega (arith, refused-length (start .args .r), start .pre))))
 
 pub put-refused-spec : {M : Type 1} → statement M
 put-refused-spec =

@@ -31,9 +31,16 @@ same-length c = search needs
 returns : tie.Need-returns
 unfolding rowOf
 returns c =
-    let args = c .before .before .before .before .before .before .before .before .before .before .before .before .before .before .before .before .before .before .before .args in
-    (run-more (run-more (run-more (run-one (c .before .before .before .before .before .before .before .before .before .before .before .before .before .before .before .before .put-hex1 .ensures)) (c .before .before .before .before .before .before .before .before .before .before .before .put-bytes .ensures)) (c .before .before .before .before .before .before .before .put-hex8 .ensures)) (c .before .before .put-bytes2 .ensures)) .fitting
-    (omega (arith, row-length (args .id) (args .crc), c .before .before .before .before .before .before .before .before .before .before .before .before .before .before .before .before .before .before .before .pre))
+    let end = c .before .before in
+    let crc = end .before .before .before .before .before in
+    let space = crc .before .before .before .before in
+    let id = space .before .before .before .before .before in
+    let start = id .before .before .before in
+    let r0 = run-one (id .put-hex1 .ensures) in
+    let r1 = run-more r0 (space .put-bytes .ensures) in
+    let r2 = run-more r1 (crc .put-hex8 .ensures) in
+    let r3 = run-more r2 (end .put-bytes2 .ensures) in
+    r3 .fitting (omega (arith, row-length (start .args .id) (start .args .crc), start .pre))
 
 pub put-row-spec : {M : Type 1} → statement M
 put-row-spec =

@@ -1,6 +1,7 @@
 -- The parts are put one behind the other. Assumes nothing.
 use native.Mathlib.Omega.{arith}
 use Rattle.text.proofs.Laws.{run-one, run-more}
+use Rattle.text.specs.Text.{bytesOf}
 use Rattle.dryrun.specs.Lines.{countLine}
 use Rattle.dryrun.proofs.Lengths.{count-length}
 use borrow.Author.Needs.{needs}
@@ -26,11 +27,15 @@ put-mark-requires : tie.Need-put-mark-requires
 put-mark-requires c κs = search needs
 
 returns : tie.Need-returns
-unfolding countLine
+unfolding countLine bytesOf
 returns c =
-    let args = c .before .before .before .before .before .before .before .before .before .before .args in
-    (run-more (run-more (run-more (run-one (c .before .before .before .before .before .before .before .put-bytes .ensures)) (c .before .before .before .before .before .put-decimal .ensures)) (c .before .before .put-bytes2 .ensures)) (c .put-mark .ensures)) .fitting
-    (omega (arith, count-length (args .sent) (args .burned)))
+    let burn = c .before .before in
+    let sent = burn .before .before .before in
+    let count = sent .before .before in
+    let start = count .before .before .before in
+    let counted = run-more (run-one (count .put-bytes .ensures)) (sent .put-decimal .ensures) in
+    (run-more (run-more counted (burn .put-bytes2 .ensures)) (c .put-mark .ensures)) .fitting
+    (omega (arith, count-length (start .args .sent) (start .args .burned)))
 
 pub put-count-spec : {M : Type 1} → statement M
 put-count-spec =

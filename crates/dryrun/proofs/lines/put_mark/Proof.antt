@@ -1,4 +1,5 @@
 -- Each case has its own word. Assumes nothing.
+use Rattle.text.specs.Text.{bytesOf}
 use Rattle.dryrun.specs.Lines.{mark}
 use borrow.Author.Needs.{needs}
 use Rattle.dryrun.proofs.lines.put_mark.Statement.{statement}
@@ -20,14 +21,14 @@ same-length : tie.Need-same-length
 same-length c = search needs
 
 returns : tie.Need-returns
-unfolding mark
+unfolding mark bytesOf
 returns c = rw (c .before .before .before .before .before .if1 .taken) (c .before .before .put-bytes .ensures)
 
 same-length-2 : tie.Need-same-length-2
 same-length-2 c = search needs
 
 returns-2 : tie.Need-returns-2
-unfolding mark
+unfolding mark bytesOf
 returns-2 c = rw (c .before .before .before .before .before .if1 .left) (c .before .before .put-bytes2 .ensures)
 
 pub put-mark-spec : {M : Type 1} → statement M

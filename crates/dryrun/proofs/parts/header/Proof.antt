@@ -1,6 +1,5 @@
 -- Each setting from its bytes. Assumes nothing.
 use Rattle.dryrun.specs.Parts.{settingsOf, headerOf}
-use lib.Dec.{ltb}
 use borrow.Author.Needs.{needs}
 use Rattle.dryrun.proofs.parts.header.Statement.{statement}
 use Rattle.dryrun.proofs.parts.header.Tie as tie

@@ -1,6 +1,5 @@
 -- The same tests in the same order. Assumes nothing.
 use borrow.Author.Tests.{lt-ltb, le-ltb}
-use mathlib.Core.Path.{sym, _∙_}
 use Rattle.dryrun.specs.Parts.{inputOf}
 use borrow.Author.Needs.{needs}
 use Rattle.dryrun.proofs.parts.parse.Statement.{statement}

@@ -1,8 +1,9 @@
 -- Each case has its own word. Assumes nothing.
-use Rattle.dryrun.specs.Lines.{word}
+use Rattle.text.specs.Text.{bytesOf}
+use Rattle.dryrun.specs.Lines.{verb}
 use borrow.Author.Needs.{needs}
-use Rattle.dryrun.proofs.lines.put_word.Statement.{statement}
-use Rattle.dryrun.proofs.lines.put_word.Tie as tie
+use Rattle.dryrun.proofs.lines.put_verb.Statement.{statement}
+use Rattle.dryrun.proofs.lines.put_verb.Tie as tie
 
 slice-aggregate-put-bytes : tie.Need-slice-aggregate-put-bytes
 slice-aggregate-put-bytes c = search needs
@@ -20,18 +21,18 @@ same-length : tie.Need-same-length
 same-length c = search needs
 
 returns : tie.Need-returns
-unfolding word
+unfolding verb bytesOf
 returns c = rw (c .before .before .before .before .before .if1 .taken) (c .before .before .put-bytes .ensures)
 
 same-length-2 : tie.Need-same-length-2
 same-length-2 c = search needs
 
 returns-2 : tie.Need-returns-2
-unfolding word
+unfolding verb bytesOf
 returns-2 c = rw (c .before .before .before .before .before .if1 .left) (c .before .before .put-bytes2 .ensures)
 
-pub put-word-spec : {M : Type 1} → statement M
-put-word-spec =
+pub put-verb-spec : {M : Type 1} → statement M
+put-verb-spec =
     tie.close
     (tie.spec
     slice-aggregate-put-bytes
