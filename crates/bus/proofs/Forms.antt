@@ -2,7 +2,7 @@
 -- that speaks of it. Assumes nothing.
 use mathlib.Core.Path.{_≡_, refl, sym, ap, _∙_}
 use mathlib.Core.Logic.{inl, inr}
-use mathlib.Core.Bool.{Bool, true, false}
+use mathlib.Core.Bool.{Bool, true, false, cond}
 use mathlib.Core.List.{List, [], _∷_}
 use Prim.Native.Nat.{ℕ, zero, suc, _<_}
 use native.Mathlib.Omega.{arith}
@@ -32,8 +32,16 @@ above-is q kind rs h = rw (ne-eqb kind 0 (λ x. omega arith), lt-ltb 1 kind h)
 good-is : {q : Request} {kind : ℕ} {rs : List ℕ} {w : ℕ} → InForm q kind rs w → formOf q kind rs ≡ Good w
 unfolding formOf doneForm framed readOf eight readForm sealedOf wordAt pecFrom
 good-is (wrote sent p) = refl
-good-is (registerRead a b c d) = rw (eq-eqb (registerPec a b c d) (registerPec a b c d) refl) (ap Good (omega arith))
-good-is (blockRead command a b c d) = rw (eq-eqb (blockPec command a b c d) (blockPec command a b c d) refl) (ap Good (omega arith))
+good-is (registerRead a b c d) =
+    let p = registerPec a b c d in
+    let bs : List ℕ = a ∷ b ∷ c ∷ d ∷ p ∷ [] in
+    let sealed : formOf readData 1 bs ≡ cond (eqb p p) (Good (wordAt bs 0)) Miscoded = refl in
+    sealed ∙ rw (eq-eqb p p refl) (ap Good (omega arith))
+good-is (blockRead command a b c d) =
+    let p = blockPec command a b c d in
+    let bs : List ℕ = 4 ∷ a ∷ b ∷ c ∷ d ∷ p ∷ [] in
+    let sealed : formOf (readBlock command) 1 bs ≡ cond (eqb p p) (Good (wordAt bs 1)) Miscoded = refl in
+    sealed ∙ rw (eq-eqb p p refl) (ap Good (omega arith))
 
 shape-is : {q : Request} {rs : List ℕ} → WrongShape q rs → formOf q 1 rs ≡ Misshapen
 unfolding formOf doneForm framed readOf eight readForm
