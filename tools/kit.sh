@@ -61,3 +61,15 @@ build_second() {
         fi
     done
 }
+
+# Proves and builds a program of the house where target/ does not have it or has it from older sources. Its time is then that of
+# the look at the sources, so that a source which changes meanwhile is seen the next time.
+build_program() { # NAME
+    if [ -x "target/bin/$1" ] && [ -z "$(find crates crates.txt -newer "target/bin/$1" | head -n 1)" ]; then return 0; fi
+    echo "building $1: it is proved first, which takes some minutes where its sources are new" >&2
+    mkdir -p target
+    : >"target/build-$1.began"
+    rt check "$1" >"target/build-$1.log" 2>&1 && [ -x "target/bin/$1" ] ||
+        { complain "$1 could not be built: target/build-$1.log says why"; return 1; }
+    touch -r "target/build-$1.began" "target/bin/$1"
+}
