@@ -1,0 +1,43 @@
+-- The same tests in the same order. Assumes nothing.
+use borrow.Author.Tests.{ne-eqb}
+use Rattle.bus.proofs.Laws.{tests}
+use Rattle.host.specs.Replies.{replyOf}
+use borrow.Author.Needs.{needs}
+use Rattle.host.proofs.Regulator.answered.Statement.{statement}
+use Rattle.host.proofs.Regulator.answered.Tie as tie
+
+silent-requires : tie.Need-silent-requires
+silent-requires c κs = search needs
+
+returns : tie.Need-returns
+unfolding replyOf
+returns c = search tests
+
+array-read-read : tie.Need-array-read-read
+array-read-read c = search needs
+
+read-requires : tie.Need-read-requires
+read-requires c κs = search needs
+
+returns-2 : tie.Need-returns-2
+unfolding replyOf
+returns-2 c = simp (ne-eqb _ _ (c .before .before .before .if1 .left), c .before .before .if2 .taken) (c .read .ensures)
+
+took-requires : tie.Need-took-requires
+took-requires c κs = search needs
+
+returns-3 : tie.Need-returns-3
+unfolding replyOf
+returns-3 c = simp (ne-eqb _ _ (c .before .before .if1 .left), c .before .if2 .left) (c .took .ensures)
+
+pub answered-spec : {M : Type 1} → statement M
+answered-spec =
+    tie.close
+    (tie.spec
+    silent-requires
+    returns
+    array-read-read
+    read-requires
+    returns-2
+    took-requires
+    returns-3)

@@ -1,0 +1,19 @@
+-- A reply of the simulated regulator has no more bytes than there are. Assumes nothing.
+use Prim.Native.Nat.{_≤_}
+use native.Mathlib.Omega.{arith}
+use lib.Dec.{eqb}
+use lib.ListN.{length, getD}
+use Rattle.line.proofs.Basics.{split}
+use Rattle.bus.specs.Bus.{wordBytes}
+use Rattle.bus.specs.declared.Request.{Request}
+use Rattle.host.specs.declared.Regulator.{Regulator}
+use Rattle.host.specs.Replies.{silent, took, wordReply, blockReply, readReply, replyOf}
+
+pub reply-within : (d : Regulator) (q : Request) → replyOf d q .count ≤ length (replyOf d q .bytes)
+unfolding replyOf readReply silent took wordReply blockReply wordBytes
+reply-within d q =
+    split (eqb (d .lasts) 0) (λ t. rw t (omega arith))
+    (λ t. split (q .reads)
+    (λ u. split (eqb (getD (q .bytes) 1 0) 0xAD) (λ v. rw (t, u, v) (omega arith))
+    (λ v. split (eqb (getD (q .bytes) 1 0) 0xAE) (λ w. rw (t, u, v, w) (omega arith)) (λ w. rw (t, u, v, w) (omega arith))))
+    (λ u. rw (t, u) (omega arith)))

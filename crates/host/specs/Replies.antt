@@ -1,0 +1,46 @@
+-- What the simulated regulator answers: in form, from what it holds (document 01, "The session"). Assumes nothing.
+use Prim.Native.Nat.{ℕ}
+use mathlib.Core.List.{[], _∷_, _++_}
+use mathlib.Core.Bool.{cond}
+use lib.Dec.{eqb}
+use lib.ListN.{getD}
+use Rattle.bus.specs.Bus.{wordBytes}
+use Rattle.bus.specs.declared.Request.{Request}
+use Rattle.pec.specs.Pec.{pec}
+use Rattle.host.specs.declared.Regulator.{Regulator}
+use Rattle.host.specs.declared.Reply.{Reply}
+
+-- not acknowledged
+unfoldable pub silent : Reply
+silent = record { kind = 0; count = 0; bytes = 0 ∷ 0 ∷ 0 ∷ 0 ∷ 0 ∷ 0 ∷ [] }
+
+-- a write that was taken
+unfoldable pub took : Reply
+took = record { kind = 1; count = 0; bytes = 0 ∷ 0 ∷ 0 ∷ 0 ∷ 0 ∷ 0 ∷ [] }
+
+-- four bytes, lowest first, and their PEC
+unfoldable pub wordReply : ℕ → ℕ → Reply
+wordReply command w =
+    record { kind = 1; count = 5; bytes = wordBytes w ++ (pec (0xC0 ∷ command ∷ 0xC1 ∷ wordBytes w) ∷ 0 ∷ []) }
+
+-- the count 4, four bytes, lowest first, and their PEC
+unfoldable pub blockReply : ℕ → ℕ → Reply
+blockReply command w =
+    record { kind = 1; count = 6; bytes = 4 ∷ (wordBytes w ++ (pec (0xC0 ∷ command ∷ 0xC1 ∷ 4 ∷ wordBytes w) ∷ [])) }
+
+-- what the register that was pointed to shows
+unfoldable pub valueOf : Regulator → ℕ
+valueOf d =
+    cond (eqb (d .register) 0x0035) (d .counter)
+    (cond (eqb (d .register) 0x007E) (cond (eqb (d .busy) 0) 1 0)
+    (cond (eqb (d .register) 0x007F) (d .banks) (cond (eqb (d .register) 0x0094) (d .crc) 0)))
+
+-- identity and revision are blocks
+unfoldable pub readReply : Regulator → ℕ → Reply
+readReply d command =
+    cond (eqb command 0xAD) (blockReply command (d .file .identity))
+    (cond (eqb command 0xAE) (blockReply command 0x06000000) (wordReply command (valueOf d)))
+
+unfoldable pub replyOf : Regulator → Request → Reply
+replyOf d q =
+    cond (eqb (d .lasts) 0) silent (cond (q .reads) (readReply d (getD (q .bytes) 1 0)) took)
