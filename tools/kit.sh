@@ -31,6 +31,12 @@ run_x86() { # PROGRAM [WORDS...]
     ${kit_emulator:+"$kit_emulator"} "$kit_tools/lib/ld-linux-x86-64.so.2" --library-path "$kit_tools/lib" "$@"
 }
 
+# The words by which run_x86 starts a program, one to a line, for a caller that is no shell.
+x86_words() {
+    [ -z "$kit_emulator" ] || printf '%s\n' "$kit_emulator"
+    printf '%s\n' "$kit_tools/lib/ld-linux-x86-64.so.2" --library-path "$kit_tools/lib"
+}
+
 # Compiles one C file for x86-64 and links it with an archive that `rt staticlib` wrote. On another processor the kit's clang
 # compiles it, with the headers of this machine's C compiler, and the kit's linker and C library link it.
 link_c() { # OUT SOURCE ARCHIVE

@@ -410,39 +410,66 @@ pub fn render(rng: &mut Rng, draft: &Draft, style: Style) -> Vec<u8> {
     join(rng, &texts_of(draft), style)
 }
 
-// ---- The case folder ------------------------------------------------------------------------
+// ---- Where cases go -------------------------------------------------------------------------
 
-/// Writes numbered case files. The first failure is kept and reported at the end.
+/// Takes the cases: as numbered files of a folder, or as a list in memory. The first failure to
+/// write is kept and reported at the end.
 pub struct Folder {
-    directory: PathBuf,
-    extension: &'static str,
+    place: Place,
     count: usize,
     failure: Option<io::Error>,
+}
+
+enum Place {
+    Disk(PathBuf, &'static str),
+    #[allow(dead_code)] // for tests/fuzzing
+    Memory(Vec<Vec<u8>>),
 }
 
 impl Folder {
     pub fn new(directory: &Path, extension: &'static str) -> io::Result<Folder> {
         fs::create_dir_all(directory)?;
-        Ok(Folder {
-            directory: directory.to_path_buf(),
-            extension,
+        Ok(Folder::of(Place::Disk(directory.to_path_buf(), extension)))
+    }
+
+    #[allow(dead_code)] // for tests/fuzzing
+    pub fn in_memory() -> Folder {
+        Folder::of(Place::Memory(Vec::new()))
+    }
+
+    fn of(place: Place) -> Folder {
+        Folder {
+            place,
             count: 0,
             failure: None,
-        })
+        }
     }
 
     pub fn put(&mut self, label: &str, bytes: &[u8]) {
-        let name = format!("{:04}-{label}.{}", self.count, self.extension);
-        self.count += 1;
-        if let Err(error) = fs::write(self.directory.join(name), bytes) {
-            self.failure.get_or_insert(error);
+        match &mut self.place {
+            Place::Disk(directory, extension) => {
+                let name = format!("{:04}-{label}.{extension}", self.count);
+                if let Err(error) = fs::write(directory.join(name), bytes) {
+                    self.failure.get_or_insert(error);
+                }
+            }
+            Place::Memory(cases) => cases.push(bytes.to_vec()),
         }
+        self.count += 1;
     }
 
     pub fn finish(self) -> io::Result<usize> {
         match self.failure {
             Some(error) => Err(error),
             None => Ok(self.count),
+        }
+    }
+
+    #[allow(dead_code)] // for tests/fuzzing
+    pub fn into_cases(self) -> Vec<Vec<u8>> {
+        match self.place {
+            Place::Disk(..) => Vec::new(),
+            Place::Memory(cases) => cases,
         }
     }
 }

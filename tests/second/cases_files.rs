@@ -24,16 +24,26 @@ pub struct Files {
 
 /// Writes all case files and returns how many there are.
 pub fn write_all(seed: u64, directory: &Path) -> io::Result<usize> {
+    made(seed, Folder::new(directory, "hex")?).finish()
+}
+
+/// The texts of all case files.
+#[allow(dead_code)] // for tests/fuzzing
+pub fn all(seed: u64) -> Vec<Vec<u8>> {
+    made(seed, Folder::in_memory()).into_cases()
+}
+
+fn made(seed: u64, folder: Folder) -> Folder {
     let mut files = Files {
         rng: Rng::new(seed),
-        folder: Folder::new(directory, "hex")?,
+        folder,
     };
     files.accepted();
     files.sizes();
     files.line_cases();
     files.whole_cases();
     files.random_changes();
-    files.folder.finish()
+    files.folder
 }
 
 // ---- Putting a case -------------------------------------------------------------------------

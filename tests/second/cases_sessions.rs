@@ -24,9 +24,19 @@ pub struct Sessions {
 
 /// Writes all case sessions and returns how many there are.
 pub fn write_all(seed: u64, directory: &Path) -> io::Result<usize> {
+    made(seed, Folder::new(directory, "bin")?).finish()
+}
+
+/// The inputs of all case sessions.
+#[allow(dead_code)] // for tests/fuzzing
+pub fn all(seed: u64) -> Vec<Vec<u8>> {
+    made(seed, Folder::in_memory()).into_cases()
+}
+
+fn made(seed: u64, folder: Folder) -> Folder {
     let mut sessions = Sessions {
         rng: Rng::new(seed),
-        folder: Folder::new(directory, "bin")?,
+        folder,
     };
     sessions.done();
     sessions.refused_settings();
@@ -37,7 +47,7 @@ pub fn write_all(seed: u64, directory: &Path) -> io::Result<usize> {
     sessions.past_the_verdict();
     sessions.input_cases();
     sessions.random_sessions();
-    sessions.folder.finish()
+    sessions.folder
 }
 
 // ---- Making and putting a case --------------------------------------------------------------
