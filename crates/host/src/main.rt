@@ -9,7 +9,7 @@ use session::Report;
 use session::Session;
 use session::Settings;
 
-// A simulated regulator. It answers in form, judges nothing, and can be made to go wrong.
+// A simulated regulator. It judges nothing, and answers in form while it lasts (specs/Statements.antt).
 struct Regulator {
     // What it holds once it is programmed.
     pub file: Summary,

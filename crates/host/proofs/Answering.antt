@@ -1,0 +1,21 @@
+-- While it lasts, the simulated regulator answers in form. Assumes nothing.
+use mathlib.Core.Path.{_≡_}
+use mathlib.Core.Bool.{false}
+use native.Mathlib.Omega.{arith}
+use lib.Dec.{eqb}
+use borrow.Author.Tests.{ne-eqb}
+use Rattle.bus.specs.Bus.{eight, framed, readOf, wordBytes}
+use Rattle.bus.specs.InForm.{wrote, registerRead, blockRead}
+use Rattle.host.specs.Replies.{took, wordReply, blockReply, readReply, replyOf}
+use Rattle.host.specs.Statements.{InFormWhileItLasts}
+
+pub in-form-while-it-lasts : InFormWhileItLasts
+unfolding replyOf readReply took wordReply blockReply framed readOf eight wordBytes
+in-form-while-it-lasts d h =
+    let lasts : eqb (d .lasts) 0 ≡ false = ne-eqb (d .lasts) 0 (λ e. omega arith) in
+    record {
+      writes = λ sent p. rw lasts (wrote sent p);
+      register = rw lasts (registerRead _ _ _ _);
+      identity = rw lasts (blockRead _ _ _ _ _);
+      revision = rw lasts (blockRead _ _ _ _ _);
+    }
