@@ -2,12 +2,16 @@
 
 use crate::cases_common::{capital, pec, Rng};
 
+/// No text gets longer: far more than a file may have, and less than the C side has room for.
+const LONGEST: usize = 200_000;
+
 /// The text with one to three changes.
 pub fn changed_text(rng: &mut Rng, text: &[u8], other: &[u8]) -> Vec<u8> {
     let mut text = text.to_vec();
     for _ in 0..rng.from_to(1, 3) {
         change_once(rng, &mut text, other);
     }
+    text.truncate(LONGEST);
     text
 }
 

@@ -302,6 +302,14 @@ fn words_of(name: &str) -> Vec<String> {
         .collect()
 }
 
+/// A comparison that cannot go on is no success, and says so at once.
+fn told(result: io::Result<()>) -> io::Result<()> {
+    if let Err(error) = &result {
+        println!("fuzz: a comparison stopped: {error}");
+    }
+    result
+}
+
 fn main() -> ExitCode {
     let words: Vec<String> = env::args().skip(1).collect();
     let numbers: Vec<u64> = words.iter().filter_map(|word| word.parse().ok()).collect();
@@ -321,10 +329,10 @@ fn main() -> ExitCode {
     let [files, pecs, shows, replays] = &tallies;
     let failed = thread::scope(|scope| {
         let workers = [
-            scope.spawn(|| files_by_entries(&plan, files, pecs)),
-            scope.spawn(|| files_by_show(&plan, shows)),
-            scope.spawn(|| sessions_by_replay(&plan, replays, 1)),
-            scope.spawn(|| sessions_by_replay(&plan, replays, 2)),
+            scope.spawn(|| told(files_by_entries(&plan, files, pecs))),
+            scope.spawn(|| told(files_by_show(&plan, shows))),
+            scope.spawn(|| told(sessions_by_replay(&plan, replays, 1))),
+            scope.spawn(|| told(sessions_by_replay(&plan, replays, 2))),
         ];
         let mut said = began;
         while workers.iter().any(|worker| !worker.is_finished()) {
@@ -344,9 +352,6 @@ fn main() -> ExitCode {
         }
         workers.map(|worker| worker.join().expect("a worker"))
     });
-    for failure in failed.iter().filter_map(|result| result.as_ref().err()) {
-        println!("fuzz: a comparison stopped: {failure}");
-    }
     files.report("each by tehilgam_refusal of the delivered archive, all in one process");
     pecs.report("each by tehilgam_pec of the delivered archive, all in one process");
     shows.report("each by a run of the program show, byte for byte");
