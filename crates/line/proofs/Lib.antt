@@ -2,6 +2,7 @@ pub mod Basics
 pub mod Parts
 pub mod Cuts
 pub mod Right
+pub mod Taking
 pub mod Spelling
 pub mod Rows
 pub mod Order

@@ -26,6 +26,18 @@ module _ (digit : ℕ → ℕ) where
     unfolding digitRun
     run-past h = rw (drop-of-length-le s h)
 
+    pub digits-on : i < length s → isDigit digit (getD s i 0) ≡ true → allDigits digit (drop i s) ≡ allDigits digit (drop (i + 1) s)
+    unfolding allDigits
+    digits-on h e = rw (drop-at1 s i h) (simp e)
+
+    pub digits-stop : i < length s → isDigit digit (getD s i 0) ≡ false → allDigits digit (drop i s) ≡ false
+    unfolding allDigits
+    digits-stop h e = rw (drop-at1 s i h) (simp e)
+
+    pub digits-past : length s ≤ i → allDigits digit (drop i s) ≡ true
+    unfolding allDigits
+    digits-past h = rw (drop-of-length-le s h)
+
   pub run-le : (s : List ℕ) → digitRun digit s ≤ length s
   unfolding digitRun
   run-le [] = omega arith

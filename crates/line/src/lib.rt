@@ -3,6 +3,7 @@
 mod digits_table;
 mod scan;
 mod tests;
+mod usual;
 mod values;
 
 use counts::LineNumber;
@@ -14,10 +15,11 @@ use tests::bad_pairs;
 use tests::crc_right;
 use tests::form_right;
 use tests::length_right;
+use usual::usual_at;
 use values::line_of;
 ghost use mathlib.Core.Path.{_≡_};
-ghost use lib.ListN.{drop};
-ghost use Prim.Native.Nat.{_+_};
+ghost use lib.ListN.{length, drop};
+ghost use Prim.Native.Nat.{_+_, _<_};
 ghost use Rattle.pec.specs.Pec.{pec};
 ghost use Rattle.pec.specs.Lent.{runWith};
 ghost use Rattle.line.specs.Lines.{placeOf};
@@ -62,6 +64,12 @@ pub enum Step {
 enum Ending {
     Other,
     Next(usize),
+}
+
+// A line with the place behind it, taken in its usual form, or left.
+enum Taken {
+    Is(Line, usize),
+    Not,
 }
 
 impl Fault {
@@ -125,16 +133,28 @@ fn step_by(reading: LineReading, next: usize) -> Step
     }
 }
 
+// The reading by a search for the end of the digits.
+fn searched(digits: &[u8; 256], table: &[u8; 256], s: &[u8], at: usize, n: LineNumber) -> Step
+    requires { ⌜ at < length (now s) ⌝ }
+    ensures { λ r. ⌜ r ≡ lentStep (now (digits .entry)) (now (table .entry)) n at (now (s .entry)) ⌝ }
+{
+    let end = run_end(digits, s, at);
+    let ending = end_at(s, end);
+    match ending {
+        Ending::Other => Step::Stopped(Fault::Char),
+        Ending::Next(next) => step_by(read_digits(digits, table, &s[at..end], n), next),
+    }
+}
+
 // The reading of the line that starts at a place, if one does.
 pub fn read_at(digits: &[u8; 256], table: &[u8; 256], s: &[u8], at: usize, n: LineNumber) -> Step
     ensures { λ r. ⌜ r ≡ lentStep (now (digits .entry)) (now (table .entry)) n at (now (s .entry)) ⌝ }
 {
     if at < s.len() {
-        let end = run_end(digits, s, at);
-        let ending = end_at(s, end);
-        match ending {
-            Ending::Other => Step::Stopped(Fault::Char),
-            Ending::Next(next) => step_by(read_digits(digits, table, &s[at..end], n), next),
+        let taken = usual_at(digits, table, s, at, n);
+        match taken {
+            Taken::Is(line, next) => Step::Took(line, next),
+            Taken::Not => searched(digits, table, s, at, n),
         }
     } else {
         Step::End
