@@ -1,15 +1,12 @@
-//! The proved checker, by its C entry, against two plain ones in Rust on an accepted file of eight configurations, in one run:
-//! a straightforward one, which cuts, tests and then reads each line, and the fastest that we know, which looks every digit up in
-//! a table and reads a line while it scans it. Each is timed in turns, and the least of nine turns counts.
-mod plain;
-
-use plain::{nibble, REMAINDERS};
+//! The proved checker, by its C entry, against two plain ones in Rust on an accepted file: a straightforward one, which cuts, tests
+//! and then reads each line, and the fastest that we know, which looks every digit up in a table and reads a line while it scans it.
+use crate::plain::{nibble, REMAINDERS};
+use crate::times::{least, Row};
 use std::hint::black_box;
-use std::time::Instant;
 
 #[link(name = "loader", kind = "static")]
 extern "C" {
-    fn tehilgam_refusal(text: *const u8, length: usize) -> u8;
+    pub fn tehilgam_refusal(text: *const u8, length: usize) -> u8;
 }
 
 const fn digit_values() -> [u8; 256] {
@@ -208,31 +205,32 @@ fn fastest(text: &[u8]) -> u8 {
     whole.number()
 }
 
-fn microseconds(check: &dyn Fn(&[u8]) -> u8, text: &[u8]) -> f64 {
-    let repeats = 100;
-    let start = Instant::now();
-    for _ in 0..repeats {
-        black_box(check(black_box(text)));
-    }
-    start.elapsed().as_secs_f64() * 1e6 / f64::from(repeats)
+fn proved(text: &[u8]) -> u8 {
+    unsafe { tehilgam_refusal(text.as_ptr(), text.len()) }
 }
 
-fn main() {
-    let proved = |text: &[u8]| unsafe { tehilgam_refusal(text.as_ptr(), text.len()) };
-    let checkers: [(&str, &dyn Fn(&[u8]) -> u8); 3] = [("proved", &proved), ("straightforward", &straightforward), ("fastest plain", &fastest)];
-    for name in std::env::args().skip(1) {
-        let text = std::fs::read(&name).expect("the file is there");
-        let answers: Vec<u8> = checkers.iter().map(|(_, check)| check(&text)).collect();
-        assert!(answers.iter().all(|&number| number == 0), "{name}: {answers:?}");
-        let mut best = [f64::MAX; 3];
-        for _ in 0..9 {
-            for (best, (_, check)) in best.iter_mut().zip(&checkers) {
-                *best = best.min(microseconds(check, &text));
-            }
-        }
-        println!(
-            "check, {} bytes: proved {:.1} us, straightforward {:.1} us, ratio {:.2}; fastest plain {:.1} us, ratio {:.2}",
-            text.len(), best[0], best[1], best[0] / best[1], best[2], best[0] / best[2]
-        );
+/// Nanoseconds of each checker, proved first.
+fn times(text: &[u8]) -> [f64; 3] {
+    let checkers: [fn(&[u8]) -> u8; 3] = [proved, straightforward, fastest];
+    assert!(checkers.iter().all(|check| check(text) == 0), "every checker accepts the file");
+    let [a, b, c] = checkers.map(|check| move || u32::from(check(black_box(text))));
+    least(10, [&a, &b, &c])
+}
+
+pub fn rows(text: &[u8]) -> Vec<Row> {
+    let [ours, straightforward, fastest] = times(text);
+    vec![
+        Row { what: "check of 8 configurations, straightforward", ours, plain: straightforward, goal: Some(0.6) },
+        Row { what: "check of 8 configurations, fastest plain", ours, plain: fastest, goal: Some(1.2) },
+    ]
+}
+
+/// How the cost of a check grows with the configurations.
+pub fn print_growth(texts: &[Vec<u8>]) {
+    println!("check, by configurations:  k     lines        us   ns a line");
+    for (k, text) in (1..).zip(texts) {
+        let lines = text.split_inclusive(|&byte| byte == b'\n').count();
+        let [ours, ..] = times(text);
+        println!("                       {k:>5} {lines:>9} {:>9.1} {:>11.1}", ours / 1e3, ours / lines as f64);
     }
 }

@@ -18,7 +18,6 @@ const fn remainders() -> [u8; 256] {
 
 pub static REMAINDERS: [u8; 256] = remainders();
 
-#[allow(dead_code)]
 pub fn nibble(byte: u8) -> Option<u8> {
     match byte {
         b'0'..=b'9' => Some(byte - b'0'),

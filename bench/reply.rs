@@ -1,15 +1,13 @@
 //! One reply in the loop of write lines: the proved session, by an entry for measuring, against a plain one in Rust that does the
 //! same work for each reply: it looks at the state it holds, judges the reply, reads and checks the line that is due, and makes the
 //! request. Both start behind a check of the file, whose time is taken off.
-mod plain;
-
-use plain::{nibble, REMAINDERS};
+use crate::plain::{nibble, REMAINDERS};
+use crate::times::{least, Row};
 use std::hint::black_box;
-use std::time::Instant;
 
 #[link(name = "measured", kind = "static")]
 extern "C" {
-    fn measured_replies(text: *const u8, length: usize, replies: u32) -> u32;
+    pub fn measured_replies(text: *const u8, length: usize, replies: u32) -> u32;
 }
 
 struct Held {
@@ -92,24 +90,15 @@ fn plain(text: &[u8], lines: u32, replies: u32) -> u32 {
     held.sent
 }
 
-fn least(mut run: impl FnMut() -> u32) -> f64 {
-    (0..9)
-        .map(|_| {
-            let start = Instant::now();
-            for _ in 0..20 {
-                black_box(run());
-            }
-            start.elapsed().as_secs_f64() * 1e9 / 20.0
-        })
-        .fold(f64::MAX, f64::min)
-}
+/// The lines of the file, and the replies behind line 5.
+pub const LINES: u32 = 2916;
+pub const REPLIES: u32 = LINES - 5;
 
-fn main() {
-    let text = std::fs::read(std::env::args().nth(1).expect("a file of eight configurations")).expect("the file is there");
-    let (lines, replies) = (2916, 2916 - 5);
-    let proved = |n| unsafe { measured_replies(black_box(&text).as_ptr(), text.len(), n) };
-    assert_eq!((proved(replies), plain(&text, lines, replies)), (7 + replies, 7 + replies));
-    let ours = (least(|| proved(replies)) - least(|| proved(0))) / f64::from(replies);
-    let theirs = (least(|| plain(&text, lines, replies)) - least(|| plain(&text, lines, 0))) / f64::from(replies);
-    println!("reply, a write line: proved {ours:.1} ns, plain {theirs:.1} ns, ratio {:.2}", ours / theirs);
+pub fn rows(text: &[u8]) -> Vec<Row> {
+    let proved = |n| unsafe { measured_replies(black_box(text).as_ptr(), text.len(), n) };
+    assert_eq!((proved(REPLIES), plain(text, LINES, REPLIES)), (7 + REPLIES, 7 + REPLIES));
+    let [a, b, c, d] =
+        least(3, [&|| proved(REPLIES), &|| proved(0), &|| plain(text, LINES, REPLIES), &|| plain(text, LINES, 0)]);
+    let each = f64::from(REPLIES);
+    vec![Row { what: "reply to a write line", ours: (a - b) / each, plain: (c - d) / each, goal: Some(1.5) }]
 }
