@@ -3,6 +3,7 @@ pub mod Parts
 pub mod Cuts
 pub mod Right
 pub mod Taking
+pub mod Counted
 pub mod Spelling
 pub mod Rows
 pub mod Order

@@ -12,7 +12,7 @@ use Rattle.counts.specs.declared.LineNumber.{LineNumber}
 use Rattle.line.specs.Digits.{isDigit, allDigits, digitRun, digitBy, valuesOf}
 use Rattle.line.specs.Reading.{badPairs, bodyOk, formOk, lengthRight, crcRight, formRight, lineOf, readValues, readDigits, stepBy}
 use Rattle.line.specs.Lent.{endingOf, readBy, byEnding, lentStep}
-use Rattle.line.specs.WriteLines.{headed, endsRun}
+use Rattle.line.specs.Quick.{headed, endsRun}
 use Rattle.line.specs.declared.Ending.the-variants.{Other, Next}
 use Rattle.line.specs.declared.Step.the-variants.{Took}
 use Rattle.line.proofs.Basics.{split, and-true, drop-at1}

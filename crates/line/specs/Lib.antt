@@ -3,4 +3,4 @@ pub mod Digits
 pub mod Reading
 pub mod Lent
 pub mod Form
-pub mod WriteLines
+pub mod Quick

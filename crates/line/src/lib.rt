@@ -1,11 +1,13 @@
 // One line of the text (document 01, "Lines of the file"): its digits, its values, and its reading as an enum. Two tables are
 // made once for a file and lent down: what each byte counts as a digit, and the remainders of the packet error code.
+mod blocks;
 mod digits_table;
 mod scan;
 mod tests;
 mod usual;
 mod values;
 
+use blocks::skip_blocks;
 use counts::LineNumber;
 use digits_table::VALUES;
 use scan::end_at;
@@ -70,6 +72,12 @@ enum Ending {
 enum Taken {
     Is(Line, usize),
     Not,
+}
+
+// A place, and how many lines are left to skip from there.
+struct Skipped {
+    pub at: usize,
+    pub left: usize,
 }
 
 impl Fault {
@@ -170,8 +178,8 @@ pub fn read_one(s: &[u8], at: usize, n: LineNumber) -> Step
     read_at(&digits, &table, s, at, n)
 }
 
-// Where the line starts that comes behind some lines from a place on.
-pub fn skip(s: &[u8], at: usize, lines: usize) -> usize
+// Line by line.
+fn skip_lines(s: &[u8], at: usize, lines: usize) -> usize
     ensures { λ r. ⌜ r ≡ at + placeOf lines (drop at (now (s .entry))) ⌝ }
 {
     let mut i = at;
@@ -181,4 +189,12 @@ pub fn skip(s: &[u8], at: usize, lines: usize) -> usize
         left -= 1;
     }
     i
+}
+
+// Where the line starts that comes behind some lines from a place on.
+pub fn skip(s: &[u8], at: usize, lines: usize) -> usize
+    ensures { λ r. ⌜ r ≡ at + placeOf lines (drop at (now (s .entry))) ⌝ }
+{
+    let past = skip_blocks(s, at, lines);
+    skip_lines(s, past.at, past.left)
 }
