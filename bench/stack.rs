@@ -1,5 +1,5 @@
 //! The stack that a call uses: it is made on a stack of its own that is filled with a pattern, and what lies above the lowest byte
-//! that was changed is used. Registers that the call saves and its return address are in it; the caller's own frame is not.
+//! that was changed is used. What the call saves is in it; the caller's own frame is not.
 use crate::check::tehilgam_refusal;
 use crate::reply::{measured_replies, REPLIES};
 use std::arch::asm;
@@ -35,7 +35,6 @@ unsafe extern "C" fn refusal(text: *const u8, length: usize, _: u32) -> u32 {
 }
 
 pub fn print(text: &[u8]) {
-    println!("stack of a check, tehilgam_refusal: {} bytes", used(refusal, text, 0));
-    println!("stack of a session's start without a reply, measured_replies: {} bytes", used(measured_replies, text, 0));
-    println!("stack of the same with {REPLIES} replies, a check and two sessions held by the loop in it: {} bytes", used(measured_replies, text, REPLIES));
+    println!("stack of a check, by tehilgam_refusal: {} bytes", used(refusal, text, 0));
+    println!("stack of a reply, by measured_replies, with the sessions that its loop holds: {} bytes", used(measured_replies, text, REPLIES));
 }

@@ -1,6 +1,5 @@
-// A write line in its usual form, 14 or 18 digits and the line's end behind them, is taken by the places of its digits, each looked
-// up once. Anything else is left to the search for the line's end, which also finds the fault: what is taken here is never refused
-// there.
+// A write line in its usual form, 14 or 18 digits and the line's end behind them, is taken by the places of its digits, so that each
+// is looked up once. Anything else is left to the search for the end of the digits, which also finds the fault.
 use crate::Ending;
 use crate::Line;
 use crate::Taken;
