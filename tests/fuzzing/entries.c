@@ -1,5 +1,5 @@
-/* Answers cases on standard input by the two C entries, in one process: a case is the byte 'f' (a file) or 'p' (a PEC), four bytes
- * length, lowest first, and so many bytes; the answer is one byte. It ends with the input. */
+/* Answers cases on standard input by the two C entries, in one process: a case is the byte 'f' (a file) or 'p' (a PEC), four
+ * bytes length, lowest first, and so many bytes; the answer is one byte. It ends with the input. */
 #include "tehilgam.h"
 #include <stdio.h>
 

@@ -52,6 +52,13 @@ impl Plan {
     fn over(&self) -> bool {
         Instant::now() >= self.until
     }
+
+    /// The seed of a worker's round: far from those of the other workers and of other runs.
+    fn seed_of(&self, worker: u64, round: u64) -> u64 {
+        Rng::new(self.seed ^ worker << 56)
+            .next()
+            .wrapping_add(round)
+    }
 }
 
 /// What one way of comparing has seen: how often each answer was given, and how many differed.
@@ -158,8 +165,9 @@ impl Entries {
 fn files_by_entries(plan: &Plan, files: &Tally, pecs: &Tally) -> io::Result<()> {
     let mut entries = Entries::start(plan)?;
     for round in 0.. {
-        let cases = cases_files::all(plan.seed.wrapping_add(round));
-        let mut rng = Rng::new(plan.seed ^ round << 32);
+        let seed = plan.seed_of(0, round);
+        let mut rng = Rng::new(seed);
+        let cases = cases_files::all(seed);
         for text in &cases {
             let other = &cases[rng.below(cases.len())];
             for turn in 0..3 {
@@ -227,7 +235,7 @@ fn output_of(plan: &Plan, program: &str, input: &[u8]) -> io::Result<Vec<u8>> {
 /// The case files in another order than the C entries meet them, each with changes every other time.
 fn files_by_show(plan: &Plan, shows: &Tally) -> io::Result<()> {
     for round in 0.. {
-        let seed = plan.seed.wrapping_add(1 << 40).wrapping_add(round);
+        let seed = plan.seed_of(1, round);
         let mut rng = Rng::new(seed);
         let mut cases = cases_files::all(seed);
         rng.shuffle(&mut cases);
@@ -258,7 +266,7 @@ fn files_by_show(plan: &Plan, shows: &Tally) -> io::Result<()> {
 /// The case sessions, one in three with a change. Each worker has its own.
 fn sessions_by_replay(plan: &Plan, replays: &Tally, worker: u64) -> io::Result<()> {
     for round in 0.. {
-        let seed = plan.seed.wrapping_add(worker << 41).wrapping_add(round);
+        let seed = plan.seed_of(worker, round);
         let mut rng = Rng::new(seed);
         let mut cases = cases_sessions::all(seed);
         rng.shuffle(&mut cases);
@@ -331,8 +339,8 @@ fn main() -> ExitCode {
         let workers = [
             scope.spawn(|| told(files_by_entries(&plan, files, pecs))),
             scope.spawn(|| told(files_by_show(&plan, shows))),
-            scope.spawn(|| told(sessions_by_replay(&plan, replays, 1))),
             scope.spawn(|| told(sessions_by_replay(&plan, replays, 2))),
+            scope.spawn(|| told(sessions_by_replay(&plan, replays, 3))),
         ];
         let mut said = began;
         while workers.iter().any(|worker| !worker.is_finished()) {
