@@ -36,8 +36,8 @@ pub fn rows() -> Vec<Row> {
     let entry = |bytes: &[u8]| unsafe { tehilgam_pec(black_box(bytes).as_ptr(), bytes.len()) };
     let lent = |bytes: &[u8]| unsafe { measured_run_with(black_box(&REMAINDERS), 0, black_box(bytes).as_ptr(), bytes.len()) };
     vec![
-        row("PEC of 64 KiB", Some(1.2), 4, || entry(&long), || plain(black_box(&long))),
-        row("PEC of 8 bytes, by a lent table", Some(1.5), 50_000, || lent(short), || plain_lent(black_box(&REMAINDERS), black_box(short))),
+        row("PEC of 64 KiB", Some(1.1), 4, || entry(&long), || plain(black_box(&long))),
+        row("PEC of 8 bytes, by a lent table", Some(1.3), 50_000, || lent(short), || plain_lent(black_box(&REMAINDERS), black_box(short))),
         row("PEC of 8 bytes, by the C entry", None, 50_000, || entry(short), || plain(black_box(short))),
     ]
 }
