@@ -40,6 +40,7 @@ pub(crate) fn crc_of(l: Line) -> u32
     word(l.d3, l.d2, l.d1, l.d0)
 }
 
+// Identifier and CRC lines carry this command.
 pub(crate) fn is_c6(l: Line) -> bool
     ensures { λ r. ⌜ r ≡ isC6 l ⌝ }
 {

@@ -15,6 +15,7 @@ ghost use Rattle.line.specs.Lines.{linesOf};
 ghost use Rattle.line.specs.Digits.{IsDigits};
 ghost use Rattle.image.specs.Walk.{start, factsWith, factsFrom};
 
+// What was seen once stays seen.
 pub(crate) fn either(a: bool, b: bool) -> bool
     ensures { λ r. ⌜ r ≡ cond a true b ⌝ }
 {

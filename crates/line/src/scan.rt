@@ -15,6 +15,7 @@ pub(crate) fn byte_at(s: &[u8], i: usize) -> u8
     if i < s.len() { s[i] } else { 0 }
 }
 
+// A CR belongs to a line's end only where it stands directly before an LF.
 pub(crate) fn cr_lf(a: u8, b: u8) -> bool
     ensures { λ r. ⌜ r ≡ crLf a b ⌝ }
 {
@@ -36,6 +37,7 @@ pub(crate) fn run_end(digits: &[u8; 256], s: &[u8], at: usize) -> usize
     i
 }
 
+// What stands at a place where digits end: a line's end, the text's end, or something else.
 pub(crate) fn end_at(s: &[u8], e: usize) -> Ending
     ensures { λ r. ⌜ r ≡ endingOf e (drop e (now (s .entry))) ⌝ }
 {
@@ -55,6 +57,7 @@ pub(crate) fn end_at(s: &[u8], e: usize) -> Ending
     }
 }
 
+// The place behind the line's LF, or the text's end where it has none.
 pub(crate) fn line_end(s: &[u8], at: usize) -> usize
     ensures { λ r. ⌜ r ≡ at + lineSkip (drop at (now (s .entry))) ⌝ }
 {

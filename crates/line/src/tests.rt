@@ -10,6 +10,7 @@ ghost use Rattle.pec.specs.Lent.{runWith};
 ghost use Rattle.line.specs.Digits.{digitBy, valuesOf};
 ghost use Rattle.line.specs.Reading.{badPairs, someTo32, headOk, bodyOk, formOk, lengthRight, crcRight, formRight};
 
+// PAIRS: odd digits, or under 10, or over 74.
 pub(crate) fn bad_pairs(d: usize) -> bool
     ensures { λ r. ⌜ r ≡ badPairs d ⌝ }
 {
@@ -20,24 +21,28 @@ pub(crate) fn bad_pairs(d: usize) -> bool
     }
 }
 
+// Length counts what follows it; tag and length come before.
 pub(crate) fn length_right(digits: &[u8; 256], t: &[u8]) -> bool
     ensures { λ r. ⌜ r ≡ lengthRight (valuesOf (digitBy (now (digits .entry))) (now (t .entry))) ⌝ }
 {
     value_at(digits, t, 1) as usize + 2 == t.len() / 2
 }
 
+// The last byte is held to the code of address, command and data.
 pub(crate) fn crc_right(digits: &[u8; 256], table: &[u8; 256], t: &[u8]) -> bool
     ensures { λ r. ⌜ r ≡ crcRight (runWith (now (table .entry)) 0) (valuesOf (digitBy (now (digits .entry))) (now (t .entry))) ⌝ }
 {
     last_value(digits, t) == crc_of(digits, table, t)
 }
 
+// The counts of lines 3 and 4, whose data is not interpreted.
 pub(crate) fn some_to_32(count: usize) -> bool
     ensures { λ r. ⌜ r ≡ someTo32 count ⌝ }
 {
     if 0 < count { count <= 32 } else { false }
 }
 
+// The table's rows for lines 1 to 4.
 pub(crate) fn head_ok(n: u32, command: u8, count: usize) -> bool
     ensures { λ r. ⌜ r ≡ headOk n command count ⌝ }
 {
@@ -68,6 +73,7 @@ pub(crate) fn head_ok(n: u32, command: u8, count: usize) -> bool
     }
 }
 
+// Its rows for lines 5 on.
 pub(crate) fn body_ok(command: u8, count: usize) -> bool
     ensures { λ r. ⌜ r ≡ bodyOk command count ⌝ }
 {
@@ -84,6 +90,7 @@ pub(crate) fn body_ok(command: u8, count: usize) -> bool
     }
 }
 
+// FORM: tag and address, and then the row by the line's number.
 pub(crate) fn form_ok(n: u32, tag: u8, address: u8, command: u8, count: usize) -> bool
     ensures { λ r. ⌜ r ≡ formOk n tag address command count ⌝ }
 {
@@ -106,6 +113,7 @@ pub(crate) fn form_ok(n: u32, tag: u8, address: u8, command: u8, count: usize) -
     }
 }
 
+// The same on a line's digits.
 pub(crate) fn form_right(digits: &[u8; 256], t: &[u8], n: LineNumber) -> bool
     ensures { λ r. ⌜ r ≡ formRight n (valuesOf (digitBy (now (digits .entry))) (now (t .entry))) ⌝ }
 {

@@ -27,6 +27,7 @@ pub(crate) fn value_at(digits: &[u8; 256], t: &[u8], i: usize) -> u8
     }
 }
 
+// So that sixteen times a digit does not overflow.
 pub(crate) fn wide(x: u8) -> u16
     ensures { λ r. ⌜ r ≡ x ⌝ }
 {
@@ -47,6 +48,7 @@ pub(crate) fn crc_of(digits: &[u8; 256], table: &[u8; 256], t: &[u8]) -> u8
     crc
 }
 
+// Data stands between the command and the CRC.
 pub(crate) fn data_at(digits: &[u8; 256], t: &[u8], i: usize) -> u8
     requires { ⌜ i < 4 ⌝ }
     ensures { λ r. ⌜ r ≡ getD (dataOf (valuesOf (digitBy (now (digits .entry))) (now (t .entry)))) i 0 ⌝ }
@@ -58,6 +60,7 @@ pub(crate) fn data_at(digits: &[u8; 256], t: &[u8], i: usize) -> u8
     }
 }
 
+// What is left of the values without tag, length, address, command and CRC.
 pub(crate) fn data_count(t: &[u8]) -> usize
     ensures { λ r. ⌜ r ≡ length (now (t .entry)) / 2 - 5 ⌝ }
 {
@@ -65,6 +68,7 @@ pub(crate) fn data_count(t: &[u8]) -> usize
     if m < 5 { 0 } else { m - 5 }
 }
 
+// The line's own CRC.
 pub(crate) fn last_value(digits: &[u8; 256], t: &[u8]) -> u8
     ensures { λ r. ⌜ r ≡ lastOf (valuesOf (digitBy (now (digits .entry))) (now (t .entry))) ⌝ }
 {
@@ -72,6 +76,7 @@ pub(crate) fn last_value(digits: &[u8; 256], t: &[u8]) -> u8
     if m < 1 { 0 } else { value_at(digits, t, m - 1) }
 }
 
+// What the rest of the house sees of a good line.
 pub(crate) fn line_of(digits: &[u8; 256], t: &[u8]) -> Line
     ensures { λ r. ⌜ r ≡ lineOf (valuesOf (digitBy (now (digits .entry))) (now (t .entry))) ⌝ }
 {

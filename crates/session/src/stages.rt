@@ -25,6 +25,7 @@ impl Session {
             .put(Step::IdentityRead, Bus::read(Bus::IDENTITY, 6))
     }
 
+    // Kept for 24.
     pub(crate) fn identity_done(self, word: u32) -> Handed
         requires { ⌜ Ready self ⌝ }
         ensures { λ r. ⌜ r ≡ identityDoneOf self word ⌝ }
@@ -34,6 +35,7 @@ impl Session {
         self.moved(p).put(Step::FlagAt, Bus::point(Bus::FLAG))
     }
 
+    // Kept for 25 and 27.
     pub(crate) fn flag_done(self, word: u32) -> Handed
         requires { ⌜ Ready self ⌝ }
         ensures { λ r. ⌜ r ≡ flagDoneOf self word ⌝ }
