@@ -45,7 +45,11 @@ digits-last base more zero n =
     rw e (drop-of-length-le (digits base more n) {i = more} (omega (arith, digits-length base more n)))
 digits-last base more (suc width) n =
     let e : more + suc width ≡ suc (more + width) = omega arith in
-    rw e (drop-append-le more (digits base (more + width) (n / base)) (glyph (n % base) ∷ []) (omega (arith, digits-length base (more + width) (n / base))) ∙ rw (digits-last base more width (n / base)))
+    rw e (drop-append-le more (digits base (more + width) (n / base)) (glyph (n % base) ∷ []) (omega (
+      arith,
+      digits-length base (more + width)
+          (n / base),
+    )) ∙ rw (digits-last base more width (n / base)))
 
 -- eight hex digits, cut as a slice to the last
 pub hex-cut : (width n : ℕ) {s : List ℕ} → width ≤ 8 → s ≡ digits 16 8 n → take (8 - (8 - width)) (drop (8 - width) s) ≡ hex width n
@@ -173,7 +177,14 @@ puts-length {before} {bs} {after} {at} p =
     (λ t.
     let room : at + length bs ≤ length before = leb-true (at + length bs) (length before) t in
     ap length (p .content ∙ put-fits before at bs room)
-    ∙ omega (arith, length-append (take at before ++ bs) (drop (at + length bs) before), length-append (take at before) bs, length-take-le at before (omega arith), length-drop (at + length bs) before))
+    ∙ omega (
+      arith,
+      length-append (take at before ++ bs) (drop (at + length bs) before),
+      length-append (take at before) bs,
+      length-take-le at before
+          (omega arith),
+      length-drop (at + length bs) before,
+    ))
     (λ t. ap length (p .content ∙ put-not before at bs (leb-false (at + length bs) (length before) t)))
 
 -- ---- how long numbers are

@@ -33,7 +33,13 @@ part-read-digits-start c = search needs
 part-read-digits-end : tie.Need-part-read-digits-end
 part-read-digits-end c =
     let a = c .before .before .before .before .before .before .args in
-    omega (arith, run-le (digitBy (a .digits .now)) (drop (a .at) (a .s .now)), length-drop (a .at) (a .s .now), c .before .before .before .before .run-end .ensures, c .before .before .before .before .before .before .pre)
+    omega (
+      arith,
+      run-le (digitBy (a .digits .now)) (drop (a .at) (a .s .now)),
+      length-drop (a .at) (a .s .now),
+      c .before .before .before .before .run-end .ensures,
+      c .before .before .before .before .before .before .pre,
+    )
 
 read-digits-requires : tie.Need-read-digits-requires
 read-digits-requires c κs = search needs
@@ -45,13 +51,19 @@ returns : tie.Need-returns
 unfolding byEnding
 returns c =
     let a = c .before .before .before .before .before .args in
-    sym (lent-here (a .digits .now) (a .table .now) (a .n) (a .at) (a .s .now) (c .before .before .before .before .before .pre) (c .before .before .before .run-end .result) (c .before .before .before .run-end .ensures) Other (via (c .before .before .end-at .ensures) (c .enum-told .given .1)))
+    sym (lent-here (a .digits .now) (a .table .now) (a .n) (a .at) (a .s .now) (c .before .before .before .before .before .pre)
+    (c .before .before .before .run-end .result) (c .before .before .before .run-end .ensures) Other (via (c .before .before .end-at .ensures)
+    (c .enum-told .given .1)))
 
 returns-2 : tie.Need-returns-2
 unfolding byEnding
 returns-2 c =
     let a = c .before .before .before .before .before .before .before .before .before .args in
-    c .step-by .ensures ∙ rw (c .before .read-digits .ensures) (sym (lent-here (a .digits .now) (a .table .now) (a .n) (a .at) (a .s .now) (c .before .before .before .before .before .before .before .before .before .pre) (c .before .before .before .before .before .before .before .run-end .result) (c .before .before .before .before .before .before .before .run-end .ensures) (Next _) (via (c .before .before .before .before .before .before .end-at .ensures) (c .before .before .before .before .ending .given .1))))
+    c .step-by .ensures ∙ rw (c .before .read-digits .ensures) (sym (lent-here (a .digits .now) (a .table .now) (a .n) (a .at) (a .s .now)
+    (c .before .before .before .before .before .before .before .before .before .pre)
+    (c .before .before .before .before .before .before .before .run-end .result)
+    (c .before .before .before .before .before .before .before .run-end .ensures) (Next _) (via
+    (c .before .before .before .before .before .before .end-at .ensures) (c .before .before .before .before .ending .given .1))))
 
 pub searched-spec : {M : Type 1} → statement M
 searched-spec =

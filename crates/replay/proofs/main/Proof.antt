@@ -43,13 +43,19 @@ enum-known-header : tie.Need-enum-known-header
 enum-known-header c = search needs
 
 sub-run : tie.Need-sub-run
-sub-run c = (header-within (take (c .before .before .before .before .before .before .before .read-full .result) (c .before .before .before .before .before .before .before .read-full .last .1 .0)) (c .before .before .header .given .0 .0) (sym (c .before .before .before .before .parse .ensures) ∙ c .before .before .header .given .1)) .0
+sub-run c = (header-within (take (c .before .before .before .before .before .before .before .read-full .result)
+    (c .before .before .before .before .before .before .before .read-full .last .1 .0)) (c .before .before .header .given .0 .0) (sym
+    (c .before .before .before .before .parse .ensures) ∙ c .before .before .header .given .1)) .0
 
 part-run-start : tie.Need-part-run-start
-part-run-start c = (header-within (take (c .before .before .before .before .before .before .before .read-full .result) (c .before .before .before .before .before .before .before .read-full .last .1 .0)) (c .before .before .header .given .0 .0) (sym (c .before .before .before .before .parse .ensures) ∙ c .before .before .header .given .1)) .0
+part-run-start c = (header-within (take (c .before .before .before .before .before .before .before .read-full .result)
+    (c .before .before .before .before .before .before .before .read-full .last .1 .0)) (c .before .before .header .given .0 .0) (sym
+    (c .before .before .before .before .parse .ensures) ∙ c .before .before .header .given .1)) .0
 
 part-run-end : tie.Need-part-run-end
-part-run-end c = (header-within (take (c .before .before .before .before .before .before .before .read-full .result) (c .before .before .before .before .before .before .before .read-full .last .1 .0)) (c .before .before .header .given .0 .0) (sym (c .before .before .before .before .parse .ensures) ∙ c .before .before .header .given .1)) .1
+part-run-end c = (header-within (take (c .before .before .before .before .before .before .before .read-full .result)
+    (c .before .before .before .before .before .before .before .read-full .last .1 .0)) (c .before .before .header .given .0 .0) (sym
+    (c .before .before .before .before .parse .ensures) ∙ c .before .before .header .given .1)) .1
 
 run-requires : tie.Need-run-requires
 run-requires c κs = search needs

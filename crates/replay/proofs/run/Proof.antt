@@ -49,13 +49,23 @@ enum-known-found : tie.Need-enum-known-found Inv-loop μ-loop
 enum-known-found c = search needs
 
 sub-reply : tie.Need-sub-reply Inv-loop μ-loop
-sub-reply c = omega (arith, (found-within (c .before .before .before .before .before .before .before .before .before .before .before .args .input .now) (c .before .before .before .before .before .before .loop .at) _ _ _ (sym (c .before .before .before .before .reply-at .ensures) ∙ c .before .before .found .given .1)) .ordered)
+sub-reply c = omega (
+  arith,
+  (found-within
+      (c .before .before .before .before .before .before .before .before .before .before .before .args .input .now)
+      (c .before .before .before .before .before .before .loop .at) _ _ _ (sym (c .before .before .before .before .reply-at .ensures)
+      ∙ c .before .before .found .given .1)) .ordered,
+)
 
 part-reply-start : tie.Need-part-reply-start Inv-loop μ-loop
-part-reply-start c = (found-within (c .before .before .before .before .before .before .before .before .before .before .before .args .input .now) (c .before .before .before .before .before .before .loop .at) _ _ _ (sym (c .before .before .before .before .reply-at .ensures) ∙ c .before .before .found .given .1)) .ordered
+part-reply-start c = (found-within (c .before .before .before .before .before .before .before .before .before .before .before .args .input .now)
+    (c .before .before .before .before .before .before .loop .at) _ _ _ (sym (c .before .before .before .before .reply-at .ensures)
+    ∙ c .before .before .found .given .1)) .ordered
 
 part-reply-end : tie.Need-part-reply-end Inv-loop μ-loop
-part-reply-end c = (found-within (c .before .before .before .before .before .before .before .before .before .before .before .args .input .now) (c .before .before .before .before .before .before .loop .at) _ _ _ (sym (c .before .before .before .before .reply-at .ensures) ∙ c .before .before .found .given .1)) .inside
+part-reply-end c = (found-within (c .before .before .before .before .before .before .before .before .before .before .before .args .input .now)
+    (c .before .before .before .before .before .before .loop .at) _ _ _ (sym (c .before .before .before .before .reply-at .ensures)
+    ∙ c .before .before .found .given .1)) .inside
 
 reply-requires : tie.Need-reply-requires Inv-loop μ-loop
 reply-requires c κs = search needs

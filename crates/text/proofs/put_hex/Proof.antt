@@ -32,7 +32,8 @@ returns : tie.Need-returns
 returns c =
     let spell = c .before .before .before .before .before .before .before .spell in
     let args = c .before .before .before .before .before .before .before .before .before .before .args in
-    rw (hex-cut (args .width) (args .n) (c .before .before .before .before .before .before .before .before .before .before .pre) (spell .ensures)) at (c .before .before .put-bytes .ensures)
+    rw (hex-cut (args .width) (args .n) (c .before .before .before .before .before .before .before .before .before .before .pre)
+    (spell .ensures)) at (c .before .before .put-bytes .ensures)
 
 pub put-hex-spec : {M : Type 1} → statement M
 put-hex-spec =

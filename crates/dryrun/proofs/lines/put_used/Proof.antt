@@ -37,8 +37,14 @@ loop-less c = search needs
 loop-again : tie.Need-loop-again Inv-loop μ-loop
 unfolding usedHex
 loop-again c =
-    let loop = c .before .before .before .before .before .loop in
-    (search needs, rw add-one ((run-more (run-one (loop .inv .1)) (c .before .before .put-hex2 .ensures)) .fitting (simp (length-append, digits-length, used-length) (omega arith))))
+    let loop = c .before .before .before .before .before .loop in (
+      search needs,
+      rw add-one ((run-more (run-one (loop .inv .1)) (c .before .before .put-hex2 .ensures)) .fitting (simp (
+        length-append,
+        digits-length,
+        used-length,
+      ) (omega arith))),
+    )
 
 same-length : tie.Need-same-length Inv-loop μ-loop
 same-length c = puts-length (c .before .loop .inv .1)

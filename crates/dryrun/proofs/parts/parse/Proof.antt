@@ -28,7 +28,13 @@ sub-if4 c = search needs
 
 returns-4 : tie.Need-returns-4
 unfolding inputOf
-returns-4 c = rw (le-ltb _ _ (c .before .before .before .before .if1 .left), ← c .before .before .before .file-length .ensures, le-ltb _ _ (c .before .before .if2 .left), le-ltb _ _ (c .before .if3 .left), lt-ltb _ _ (c .if4 .taken))
+returns-4 c = rw (
+  le-ltb _ _ (c .before .before .before .before .if1 .left),
+  ← c .before .before .before .file-length .ensures,
+  le-ltb _ _ (c .before .before .if2 .left),
+  le-ltb _ _ (c .before .if3 .left),
+  lt-ltb _ _ (c .if4 .taken),
+)
 
 add-replies-whole : tie.Need-add-replies-whole
 add-replies-whole c = search needs
@@ -41,11 +47,28 @@ header-requires c κs = search needs
 
 returns-5 : tie.Need-returns-5
 unfolding inputOf
-returns-5 c = rw (le-ltb _ _ (c .before .before .before .before .before .before .before .if1 .left), ← c .before .before .before .before .before .before .file-length .ensures, le-ltb _ _ (c .before .before .before .before .before .if2 .left), le-ltb _ _ (c .before .before .before .before .if3 .left), le-ltb _ _ (c .before .before .before .if4 .left), ← c .before .before .replies-whole .ensures, c .before .if5 .taken, c .header .ensures)
+returns-5 c = rw (
+  le-ltb _ _ (c .before .before .before .before .before .before .before .if1 .left),
+  ← c .before .before .before .before .before .before .file-length .ensures,
+  le-ltb _ _ (c .before .before .before .before .before .if2 .left),
+  le-ltb _ _ (c .before .before .before .before .if3 .left),
+  le-ltb _ _ (c .before .before .before .if4 .left),
+  ← c .before .before .replies-whole .ensures,
+  c .before .if5 .taken,
+  c .header .ensures,
+)
 
 returns-6 : tie.Need-returns-6
 unfolding inputOf
-returns-6 c = rw (le-ltb _ _ (c .before .before .before .before .before .before .if1 .left), ← c .before .before .before .before .before .file-length .ensures, le-ltb _ _ (c .before .before .before .before .if2 .left), le-ltb _ _ (c .before .before .before .if3 .left), le-ltb _ _ (c .before .before .if4 .left), ← c .before .replies-whole .ensures, c .if5 .left)
+returns-6 c = rw (
+  le-ltb _ _ (c .before .before .before .before .before .before .if1 .left),
+  ← c .before .before .before .before .before .file-length .ensures,
+  le-ltb _ _ (c .before .before .before .before .if2 .left),
+  le-ltb _ _ (c .before .before .before .if3 .left),
+  le-ltb _ _ (c .before .before .if4 .left),
+  ← c .before .replies-whole .ensures,
+  c .if5 .left,
+)
 
 pub parse-spec : {M : Type 1} → statement M
 parse-spec =

@@ -44,7 +44,13 @@ loop-less : tie.Need-loop-less Inv-loop μ-loop Inv-pairs μ-pairs
 loop-less c = search needs
 
 loop-again : tie.Need-loop-again Inv-loop μ-loop Inv-pairs μ-pairs
-loop-again c = (c .before .before .before .before .before .before .loop .inv .0, at-on _ (c .before .before .before .before .before .before .before .before .pairs .i) (c .before .before .before .before .before .before .loop .j) (c .before .before .before .before .before .before .loop .inv .1) (ne-eqb _ _ (c .if1 .left)), omega arith)
+loop-again c = (
+  c .before .before .before .before .before .before .loop .inv .0,
+  at-on _
+      (c .before .before .before .before .before .before .before .before .pairs .i) (c .before .before .before .before .before .before .loop .j)
+      (c .before .before .before .before .before .before .loop .inv .1) (ne-eqb _ _ (c .if1 .left)),
+  omega arith,
+)
 
 add-i : tie.Need-add-i Inv-loop μ-loop Inv-pairs μ-pairs
 add-i c = search needs
@@ -63,7 +69,8 @@ returns c =
     c .before .pairs .inv .0 ∙ sym (rw e at (c .before .pairs .inv .1))
 
 returns-2 : tie.Need-returns-2 Inv-loop μ-loop Inv-pairs μ-pairs
-returns-2 c = sym (in-found _ (c .before .before .before .before .before .before .before .before .pairs .i) (c .before .before .before .before .before .before .loop .j) _ (search needs) (search needs) (eq-eqb _ _ (c .if1 .taken)))
+returns-2 c = sym (in-found _ (c .before .before .before .before .before .before .before .before .pairs .i)
+    (c .before .before .before .before .before .before .loop .j) _ (search needs) (search needs) (eq-eqb _ _ (c .if1 .taken)))
 
 pub same-in-spec : {M : Type 1} → statement M
 same-in-spec =

@@ -87,16 +87,25 @@ returns c =
     let toCrc = crcPlace (a .kind) - 12 in
     let skipped : c .before .before .before .before .before .before .before .before .before .before .before .before .skip .result ≡ a .at + placeOf 11 (drop (a .at) s) = c .before .before .before .before .before .before .before .before .before .before .before .before .skip .ensures in
     let idAt : c .before .before .before .before .before .before .before .before .before .before .before .before .skip .result ≡ placeOf first s =
-    skipped ∙ place-more (stepOf (a .kind) * a .n) 11 first s (c .before .before .before .before .before .before .before .before .before .before .before .before .before .before .pre .2) refl in
+    skipped ∙ place-more (stepOf (a .kind) * a .n) 11 first s
+    (c .before .before .before .before .before .before .before .before .before .before .before .before .before .before .pre .2) refl in
     let crcAt : c .before .before .before .before .before .before .before .before .skip2 .result ≡ placeOf (first + toCrc) s =
-    c .before .before .before .before .before .before .before .before .skip2 .ensures ∙ rw (c .before .before .before .before .before .before .before .before .before .lines-to-crc .ensures) (place-more first toCrc (first + toCrc) s idAt refl) in
+    c .before .before .before .before .before .before .before .before .skip2 .ensures ∙ rw
+    (c .before .before .before .before .before .before .before .before .before .lines-to-crc .ensures) (place-more first toCrc
+    (first + toCrc) s idAt refl) in
     let next : c .before .before .before .before .skip3 .result ≡ placeOf (stepOf (a .kind) * (a .n + 1)) s =
     c .before .before .before .before .skip3 .ensures
-    ∙ rw (c .before .before .before .before .before .lines-behind-crc .ensures) (place-more (first + toCrc) (stepOf (a .kind) + 1 - crcPlace (a .kind)) _ s crcAt (to-next (a .n) (a .kind))) in
+    ∙ rw (c .before .before .before .before .before .lines-behind-crc .ensures) (place-more (first + toCrc) (stepOf (a .kind) + 1 - crcPlace
+    (a .kind)) _ s crcAt (to-next (a .n) (a .kind))) in
     let id : c .before .before .before .before .before .before .before .before .before .before .line-at .result ≡ lineAt (identifierLine (a .kind) (configNumber (a .n))) s =
-    c .before .before .before .before .before .before .before .before .before .before .line-at .ensures ∙ rw (c .before .before .before .before .before .before .before .before .before .before .before .identifier-line .ensures, idAt, to-id (a .n) (a .kind)) in
+    c .before .before .before .before .before .before .before .before .before .before .line-at .ensures ∙ rw (
+      c .before .before .before .before .before .before .before .before .before .before .before .identifier-line .ensures,
+      idAt,
+      to-id (a .n) (a .kind),
+    ) in
     let crc : c .before .before .before .before .before .before .line-at2 .result ≡ lineAt (crcLine (a .kind) (configNumber (a .n))) s =
-    c .before .before .before .before .before .before .line-at2 .ensures ∙ rw (c .before .before .before .before .before .before .before .crc-line .ensures, crcAt, to-crc (a .n) (a .kind)) in
+    c .before .before .before .before .before .before .line-at2 .ensures ∙ rw
+    (c .before .before .before .before .before .before .before .crc-line .ensures, crcAt, to-crc (a .n) (a .kind)) in
     same-marked
     (c .before .before .either .ensures ∙ rw (c .before .before .before .off-spot .ensures, id, crc))
     (ap (λ (x : ConfigId). set (a .spots .ids) (a .n) x) (c .before .id-of .ensures ∙ ap idOf id))

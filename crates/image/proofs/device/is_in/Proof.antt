@@ -23,7 +23,11 @@ shared-slice-read-if1 c = search needs
 
 returns : tie.Need-returns Inv-loop μ-loop
 unfolding isIn
-returns c = sym (c .before .before .before .loop .inv ∙ rw (drop-at1 (c .before .before .before .before .args .list .now) (c .before .before .before .loop .i) (c .before .before .loop-test .taken), eq-eqb _ _ (c .if1 .taken)))
+returns c = sym (c .before .before .before .loop .inv ∙ rw (
+  drop-at1 (c .before .before .before .before .args .list .now)
+      (c .before .before .before .loop .i) (c .before .before .loop-test .taken),
+  eq-eqb _ _ (c .if1 .taken),
+))
 
 add-i : tie.Need-add-i Inv-loop μ-loop
 add-i c = search needs
@@ -33,7 +37,11 @@ loop-less c = search needs
 
 loop-again : tie.Need-loop-again Inv-loop μ-loop
 unfolding isIn
-loop-again c = c .before .before .before .loop .inv ∙ rw (drop-at1 (c .before .before .before .before .args .list .now) (c .before .before .before .loop .i) (c .before .before .loop-test .taken), ne-eqb _ _ (c .if1 .left))
+loop-again c = c .before .before .before .loop .inv ∙ rw (
+  drop-at1 (c .before .before .before .before .args .list .now)
+      (c .before .before .before .loop .i) (c .before .before .loop-test .taken),
+  ne-eqb _ _ (c .if1 .left),
+)
 
 returns-2 : tie.Need-returns-2 Inv-loop μ-loop
 unfolding isIn

@@ -14,7 +14,11 @@ is-in-requires c κs = search needs
 
 returns : tie.Need-returns
 unfolding knownDevice
-returns c = simp (eq-eqb _ _ (c .before .before .before .before .before .before .if1 .taken), eq-eqb _ _ (c .before .before .before .before .if2 .taken), eq-eqb _ _ (c .before .before .if3 .taken)) (c .is-in .ensures)
+returns c = simp (
+  eq-eqb _ _ (c .before .before .before .before .before .before .if1 .taken),
+  eq-eqb _ _ (c .before .before .before .before .if2 .taken),
+  eq-eqb _ _ (c .before .before .if3 .taken),
+) (c .is-in .ensures)
 
 returns-2 : tie.Need-returns-2
 unfolding knownDevice

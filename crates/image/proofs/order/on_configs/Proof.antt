@@ -38,13 +38,24 @@ returns-2 c = rw (ne-eqb _ _ (c .before .before .before .if1 .left), via (c .bef
 
 returns-3 : tie.Need-returns-3
 unfolding onConfigs
-returns-3 c = rw (ne-eqb _ _ (c .before .before .before .before .before .if1 .left), via (c .before .before .before .before .burn-amiss .ensures) (c .before .before .before .if2 .left), via (c .before .before .beyond .ensures) (c .before .if3 .taken)) (c .refused-by3 .ensures)
+returns-3 c = rw (
+  ne-eqb _ _ (c .before .before .before .before .before .if1 .left),
+  via (c .before .before .before .before .burn-amiss .ensures)
+      (c .before .before .before .if2 .left),
+  via (c .before .before .beyond .ensures) (c .before .if3 .taken),
+) (c .refused-by3 .ensures)
 
 returns-4 : tie.Need-returns-4
 unfolding onConfigs
 returns-4 c =
     let a = c .before .before .before .before .before .before .before .before .args in
-    rw (ne-eqb _ _ (c .before .before .before .before .before .before .if1 .left), via (c .before .before .before .before .before .burn-amiss .ensures) (c .before .before .before .before .if2 .left), via (c .before .before .before .beyond .ensures) (c .before .before .if3 .left))
+    rw (
+      ne-eqb _ _ (c .before .before .before .before .before .before .if1 .left),
+      via
+          (c .before .before .before .before .before .burn-amiss .ensures) (c .before .before .before .before .if2 .left),
+      via
+          (c .before .before .before .beyond .ensures) (c .before .before .if3 .left),
+    )
     (c .on-spots .ensures ∙ ap (onSpots (a .s .now) (a .f) (a .kind) (a .k)) (c .before .spots-of .ensures))
 
 pub on-configs-spec : {M : Type 1} → statement M

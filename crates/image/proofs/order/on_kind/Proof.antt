@@ -28,7 +28,16 @@ configs-requires : tie.Need-configs-requires
 configs-requires c κs = search needs
 
 on-configs-requires : tie.Need-on-configs-requires
-on-configs-requires c κs = (c .before .before .before .before .before .before .before .before .pre, omega (arith, c .configs .ensures, configs-le (c .before .before .before .before .before .found .given .0 .0) (c .before .before .before .before .before .before .before .before .args .f .lines)))
+on-configs-requires c κs = (
+  c .before .before .before .before .before .before .before .before .pre,
+  omega (
+    arith,
+    c .configs .ensures,
+    configs-le
+        (c .before .before .before .before .before .found .given .0 .0)
+        (c .before .before .before .before .before .before .before .before .args .f .lines),
+  ),
+)
 
 refused-by-requires-2 : tie.Need-refused-by-requires-2
 refused-by-requires-2 c κs = search needs
@@ -41,7 +50,8 @@ returns-2 : tie.Need-returns-2
 unfolding onKind
 returns-2 c =
     let a = c .before .before .before .before .before .before .before .before .before .args in
-    let known = via (c .before .before .before .known-device .ensures ∙ ap knownDevice (c .before .before .before .before .line-at .ensures ∙ line-one (a .s .now))) (c .before .before .if1 .taken) in
+    let known = via (c .before .before .before .known-device .ensures ∙ ap knownDevice (c .before .before .before .before .line-at .ensures
+    ∙ line-one (a .s .now))) (c .before .before .if1 .taken) in
     rw (c .before .before .before .before .before .before .found .given .1, known) (c .on-configs .ensures ∙ ap (onConfigs (a .s .now) (a .f) _) (c .before .configs .ensures))
 
 returns-3 : tie.Need-returns-3

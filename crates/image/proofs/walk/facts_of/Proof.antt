@@ -37,7 +37,8 @@ returns c =
     let a = c .before .before .before .before .before .before .args in
     let at = c .before .before .before .before .loop .at in
     let f = c .before .before .before .before .loop .facts in
-    let read = read-is (c .before .before .before .before .before .before .pre .0 .0) (c .before .before .before .before .before .before .pre .0 .1) (lineNumber (f .lines + 1)) at (a .s .now) (c .before .before .read-at .ensures) in
+    let read = read-is (c .before .before .before .before .before .before .pre .0 .0) (c .before .before .before .before .before .before .pre .0 .1)
+    (lineNumber (f .lines + 1)) at (a .s .now) (c .before .before .read-at .ensures) in
     sym (c .before .before .before .before .loop .inv .0 ∙ facts-end f (a .s .now) at (via read (c .enum-told .given .1)))
 
 enum-known-step : tie.Need-enum-known-step Inv-loop μ-loop
@@ -51,7 +52,9 @@ loop-less c =
     let a = c .before .before .before .before .before .before .before .before .args in
     let at = c .before .before .before .before .before .before .loop .at in
     let f = c .before .before .before .before .before .before .loop .facts in
-    let read = read-is (c .before .before .before .before .before .before .before .before .pre .0 .0) (c .before .before .before .before .before .before .before .before .pre .0 .1) (lineNumber (f .lines + 1)) at (a .s .now) (c .before .before .before .before .read-at .ensures) in
+    let read = read-is (c .before .before .before .before .before .before .before .before .pre .0 .0)
+    (c .before .before .before .before .before .before .before .before .pre .0 .1) (lineNumber (f .lines + 1)) at (a .s .now)
+    (c .before .before .before .before .read-at .ensures) in
     let took = facts-took f (a .s .now) at _ _ (via read (c .before .before .step .given .1)) in
     omega (arith, took .1, took .2)
 
@@ -60,7 +63,9 @@ loop-again c =
     let a = c .before .before .before .before .before .before .before .before .args in
     let at = c .before .before .before .before .before .before .loop .at in
     let f = c .before .before .before .before .before .before .loop .facts in
-    let read = read-is (c .before .before .before .before .before .before .before .before .pre .0 .0) (c .before .before .before .before .before .before .before .before .pre .0 .1) (lineNumber (f .lines + 1)) at (a .s .now) (c .before .before .before .before .read-at .ensures) in
+    let read = read-is (c .before .before .before .before .before .before .before .before .pre .0 .0)
+    (c .before .before .before .before .before .before .before .before .pre .0 .1) (lineNumber (f .lines + 1)) at (a .s .now)
+    (c .before .before .before .before .read-at .ensures) in
     let took = facts-took f (a .s .now) at _ _ (via read (c .before .before .step .given .1)) in
     let l = c .before .before .step .given .0 .0 in
     rw (c .facts-with .ensures)
@@ -74,7 +79,9 @@ returns-2 c =
     let a = c .before .before .before .before .before .before .before .args in
     let at = c .before .before .before .before .before .loop .at in
     let f = c .before .before .before .before .before .loop .facts in
-    let read = read-is (c .before .before .before .before .before .before .before .pre .0 .0) (c .before .before .before .before .before .before .before .pre .0 .1) (lineNumber (f .lines + 1)) at (a .s .now) (c .before .before .before .read-at .ensures) in
+    let read = read-is (c .before .before .before .before .before .before .before .pre .0 .0)
+    (c .before .before .before .before .before .before .before .pre .0 .1) (lineNumber (f .lines + 1)) at (a .s .now)
+    (c .before .before .before .read-at .ensures) in
     sym (c .before .before .before .before .before .loop .inv .0 ∙ facts-stop f (a .s .now) at _ (via read (c .before .step2 .given .1)))
 
 pub facts-of-spec : {M : Type 1} → statement M

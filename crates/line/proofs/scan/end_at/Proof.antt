@@ -19,7 +19,8 @@ add-t11 c = search needs
 
 returns : tie.Need-returns
 unfolding endingOf
-returns c = rw (drop-at1 (c .before .before .before .before .args .s .now) (c .before .before .before .before .args .e) (c .before .before .if1 .taken)) (simp (eq-eqb _ _ (c .if2 .taken)))
+returns c = rw (drop-at1 (c .before .before .before .before .args .s .now) (c .before .before .before .before .args .e)
+    (c .before .before .if1 .taken)) (simp (eq-eqb _ _ (c .if2 .taken)))
 
 add-byte-at : tie.Need-add-byte-at
 add-byte-at c = search needs
@@ -38,7 +39,8 @@ unfolding endingOf
 returns-2 c =
     let a = c .before .before .before .before .before .before .before .args in
     let s = a .s .now in
-    let pair : crLf (getD s (a .e) 0) (getD (drop (a .e + 1) s) 0 0) ≡ true = rw (at0 s (a .e + 1)) (rw (c .before .before .byte-at .ensures) at (via (c .before .cr-lf .ensures) (c .if3 .taken))) in
+    let pair : crLf (getD s (a .e) 0) (getD (drop (a .e + 1) s) 0 0) ≡ true = rw (at0 s (a .e + 1)) (rw (c .before .before .byte-at .ensures) at
+    (via (c .before .cr-lf .ensures) (c .if3 .taken))) in
     rw (drop-at1 s (a .e) (c .before .before .before .before .before .if1 .taken), ne-eqb _ _ (c .before .before .before .if2 .left), pair)
 
 returns-3 : tie.Need-returns-3
@@ -46,7 +48,8 @@ unfolding endingOf
 returns-3 c =
     let a = c .before .before .before .before .before .before .before .args in
     let s = a .s .now in
-    let pair : crLf (getD s (a .e) 0) (getD (drop (a .e + 1) s) 0 0) ≡ false = rw (at0 s (a .e + 1)) (rw (c .before .before .byte-at .ensures) at (via (c .before .cr-lf .ensures) (c .if3 .left))) in
+    let pair : crLf (getD s (a .e) 0) (getD (drop (a .e + 1) s) 0 0) ≡ false = rw (at0 s (a .e + 1)) (rw (c .before .before .byte-at .ensures) at
+    (via (c .before .cr-lf .ensures) (c .if3 .left))) in
     rw (drop-at1 s (a .e) (c .before .before .before .before .before .if1 .taken), ne-eqb _ _ (c .before .before .before .if2 .left), pair)
 
 returns-4 : tie.Need-returns-4

@@ -36,10 +36,17 @@ code-of-four-requires c κs = search needs
 returns : tie.Need-returns
 returns c =
     let a = c .before .before .before .before .before .before .before .before .before .before .before .before .before .args in
-    four-taken (a .digits .now) (a .table .now) (a .n) (c .before .before .before .before .before .before .before .before .before .before .before .before .before .pre .1) (a .t .now) (a .next) _ _ _ _ _ _ (c .before .before .before .before .before .before .before .before .before .before .before .before .before .pre .0)
-    (via (c .before .before .before .before .before .headed .ensures) (c .before .before .before .before .if1 .taken)) (via (c .before .before .before .body-ok .ensures) (c .before .before .if2 .taken))
-    (c .before .before .before .before .before .before .before .before .before .before .before .value-at .ensures) (c .before .before .before .before .before .before .before .before .before .before .value-at2 .ensures) (c .before .before .before .before .before .before .before .before .before .value-at3 .ensures) (c .before .before .before .before .before .before .before .before .value-at4 .ensures)
-    (c .before .before .before .before .before .before .before .value-at5 .ensures) (c .before .before .before .before .before .before .value-at6 .ensures) (c .if3 .taken ∙ c .before .code-of-four .ensures)
+    four-taken (a .digits .now) (a .table .now) (a .n)
+    (c .before .before .before .before .before .before .before .before .before .before .before .before .before .pre .1) (a .t .now)
+    (a .next) _ _ _ _ _ _ (c .before .before .before .before .before .before .before .before .before .before .before .before .before .pre .0)
+    (via (c .before .before .before .before .before .headed .ensures) (c .before .before .before .before .if1 .taken)) (via
+    (c .before .before .before .body-ok .ensures) (c .before .before .if2 .taken))
+    (c .before .before .before .before .before .before .before .before .before .before .before .value-at .ensures)
+    (c .before .before .before .before .before .before .before .before .before .before .value-at2 .ensures)
+    (c .before .before .before .before .before .before .before .before .before .value-at3 .ensures)
+    (c .before .before .before .before .before .before .before .before .value-at4 .ensures)
+    (c .before .before .before .before .before .before .before .value-at5 .ensures)
+    (c .before .before .before .before .before .before .value-at6 .ensures) (c .if3 .taken ∙ c .before .code-of-four .ensures)
 
 returns-2 : tie.Need-returns-2
 returns-2 c = search needs

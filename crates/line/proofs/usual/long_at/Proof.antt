@@ -37,7 +37,9 @@ returns c = search needs
 returns-2 : tie.Need-returns-2
 returns-2 c =
     let a = c .before .before .before .before .before .before .before .args in
-    rw (usual-here (a .digits .now) (a .table .now) (a .n) (a .at) (a .at + 18) (a .s .now) _ (omega arith) (c .before .before .before .before .before .before .before .pre .0) (via (c .before .before .before .before .before .ends-run .ensures) (c .before .before .before .ending .given .1)))
+    rw (usual-here (a .digits .now) (a .table .now) (a .n) (a .at) (a .at + 18) (a .s .now) _ (omega arith)
+    (c .before .before .before .before .before .before .before .pre .0) (via (c .before .before .before .before .before .ends-run .ensures)
+    (c .before .before .before .ending .given .1)))
     (c .four-in .ensures)
 
 pub long-at-spec : {M : Type 1} → statement M

@@ -30,9 +30,14 @@ code-of-two-requires c κs = search needs
 returns : tie.Need-returns
 returns c =
     let a = c .before .before .before .before .before .before .before .before .before .before .before .args in
-    two-taken (a .digits .now) (a .table .now) (a .n) (c .before .before .before .before .before .before .before .before .before .before .before .pre .1) (a .t .now) (a .next) _ _ _ _ (c .before .before .before .before .before .before .before .before .before .before .before .pre .0)
-    (via (c .before .before .before .before .before .headed .ensures) (c .before .before .before .before .if1 .taken)) (via (c .before .before .before .body-ok .ensures) (c .before .before .if2 .taken))
-    (c .before .before .before .before .before .before .before .before .before .value-at .ensures) (c .before .before .before .before .before .before .before .before .value-at2 .ensures) (c .before .before .before .before .before .before .before .value-at3 .ensures) (c .before .before .before .before .before .before .value-at4 .ensures)
+    two-taken (a .digits .now) (a .table .now) (a .n)
+    (c .before .before .before .before .before .before .before .before .before .before .before .pre .1) (a .t .now) (a .next) _ _ _ _ (c .before .before .before .before .before .before .before .before .before .before .before .pre .0)
+    (via (c .before .before .before .before .before .headed .ensures) (c .before .before .before .before .if1 .taken)) (via
+    (c .before .before .before .body-ok .ensures) (c .before .before .if2 .taken))
+    (c .before .before .before .before .before .before .before .before .before .value-at .ensures)
+    (c .before .before .before .before .before .before .before .before .value-at2 .ensures)
+    (c .before .before .before .before .before .before .before .value-at3 .ensures)
+    (c .before .before .before .before .before .before .value-at4 .ensures)
     (c .if3 .taken ∙ c .before .code-of-two .ensures)
 
 returns-2 : tie.Need-returns-2

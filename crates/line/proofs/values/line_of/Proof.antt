@@ -29,7 +29,8 @@ last-value-requires c κs = search needs
 
 returns : tie.Need-returns
 unfolding lineOf
-returns c = cc (values-length (digitBy (c .before .before .before .before .before .before .before .before .args .digits .now)) (c .before .before .before .before .before .before .before .before .args .t .now))
+returns c = cc (values-length (digitBy (c .before .before .before .before .before .before .before .before .args .digits .now))
+    (c .before .before .before .before .before .before .before .before .args .t .now))
 
 pub line-of-spec : {M : Type 1} → statement M
 line-of-spec =
