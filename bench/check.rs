@@ -1,8 +1,7 @@
 //! The proved checker, by its C entry, against two plain ones in Rust on an accepted file: a straightforward one, which cuts, tests
 //! and then reads each line, and the fastest that we know, which looks every digit up in a table and reads a line while it scans it.
 use crate::plain::{nibble, REMAINDERS};
-use crate::times::{least, Row};
-use std::hint::black_box;
+use crate::times::{black_box, least, Row};
 
 #[link(name = "loader", kind = "static")]
 extern "C" {

@@ -1,8 +1,7 @@
 //! The PEC by the proved functions against a plain table-driven loop in Rust: 64 KiB by the C entry, and 8 bytes by a table that
 //! is made once and lent, and by the C entry, which makes it anew.
 use crate::plain::REMAINDERS;
-use crate::times::{least, Row};
-use std::hint::black_box;
+use crate::times::{black_box, least, Row};
 
 #[link(name = "loader", kind = "static")]
 extern "C" {

@@ -2,8 +2,7 @@
 //! same work for each reply: it looks at the state it holds, judges the reply, reads and checks the line that is due, and makes the
 //! request. Both start behind a check of the file, whose time is taken off.
 use crate::plain::{nibble, REMAINDERS};
-use crate::times::{least, Row};
-use std::hint::black_box;
+use crate::times::{black_box, least, Row};
 
 #[link(name = "measured", kind = "static")]
 extern "C" {

@@ -1,6 +1,13 @@
 //! Times, and the table's rows.
-use std::hint::black_box;
+use std::arch::asm;
 use std::time::Instant;
+
+/// The value, of which the compiler may assume nothing: `std::hint`'s came with Rust 1.66, and Debian's may be older.
+#[inline(always)]
+pub fn black_box<T>(value: T) -> T {
+    unsafe { asm!("/* {0} */", in(reg) &value, options(nostack, preserves_flags)) };
+    value
+}
 
 /// Nanoseconds of one call of each: all are timed in turns, and the least of sixty turns counts.
 pub fn least<const N: usize>(repeats: u32, calls: [&dyn Fn() -> u32; N]) -> [f64; N] {
