@@ -7,11 +7,7 @@ use lib.ListN.{getD}
 use Rattle.bus.specs.declared.Request.{Request}
 use Rattle.session.specs.declared.Report.{Report}
 use Rattle.session.specs.declared.Report.the-variants.{Waiting, Is}
-use Rattle.text.specs.Text.{bytesOf, hex, decimal}
-
--- LF
-abbrev pub lineEnd : List ℕ
-lineEnd = 10 ∷ []
+use Rattle.text.specs.Text.{bytesOf, lineEnd, hex, decimal}
 
 unfoldable pub verb : Bool → List ℕ
 verb true = bytesOf "read "

@@ -11,14 +11,7 @@ use Rattle.image.specs.declared.Answer.{Answer}
 use Rattle.image.specs.declared.Answer.the-variants.{Accepted, Refused}
 use Rattle.image.specs.declared.Summary.{Summary}
 use Rattle.image.specs.Check.{refusalNumber, refusalLine, checkOf}
-use Rattle.text.specs.Text.{bytesOf, hex, decimal}
-
-abbrev pub space : List ℕ
-space = 32 ∷ []
-
--- LF
-abbrev pub lineEnd : List ℕ
-lineEnd = 10 ∷ []
+use Rattle.text.specs.Text.{bytesOf, space, lineEnd, hex, decimal}
 
 unfoldable pub kindName : Kind → List ℕ
 kindName Legacy = bytesOf "legacy"

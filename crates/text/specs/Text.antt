@@ -13,6 +13,13 @@ unfoldable pub bytesOf : String → List ℕ
 bytesOf noText = []
 bytesOf (c then s) = code c ∷ bytesOf s
 
+abbrev pub space : List ℕ
+space = 32 ∷ []
+
+-- LF
+abbrev pub lineEnd : List ℕ
+lineEnd = 10 ∷ []
+
 -- the ASCII code of a digit: 0 to 9, then A to F
 unfoldable pub glyph : ℕ → ℕ
 glyph d = cond (ltb d 10) (48 + d) (55 + d)

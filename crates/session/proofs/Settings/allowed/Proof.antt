@@ -8,11 +8,11 @@ use Rattle.session.proofs.Settings.allowed.Tie as tie
 
 returns : tie.Need-returns
 unfolding all settingTests allowedOf
-returns c = simp (lt-leb _ _ (c .if1 .taken))
+returns c = simp (lt-leb 1 _ (c .if1 .taken))
 
 returns-2 : tie.Need-returns-2
 unfolding all settingTests allowedOf
-returns-2 c = simp (le-leb _ _ (c .before .before .if1 .left), lt-leb _ _ (c .if2 .taken))
+returns-2 c = simp (le-leb 1 _ (c .before .before .if1 .left), lt-leb _ 10000 (c .if2 .taken))
 
 reserved-requires : tie.Need-reserved-requires
 reserved-requires c κs = search needs
@@ -21,13 +21,13 @@ returns-3 : tie.Need-returns-3
 unfolding all settingTests allowedOf
 returns-3 c =
     let b = c .before .before in
-    simp (le-leb _ _ (b .before .before .if1 .left), le-leb _ _ (b .if2 .left), via (c .before .reserved .ensures) (c .if3 .taken))
+    simp (le-leb 1 _ (b .before .before .if1 .left), le-leb _ 10000 (b .if2 .left), via (c .before .reserved .ensures) (c .if3 .taken))
 
 returns-4 : tie.Need-returns-4
 unfolding all settingTests allowedOf
 returns-4 c =
     let b = c .before .before in
-    simp (le-leb _ _ (b .before .before .if1 .left), le-leb _ _ (b .if2 .left), via (c .before .reserved .ensures) (c .if3 .left))
+    simp (le-leb 1 _ (b .before .before .if1 .left), le-leb _ 10000 (b .if2 .left), via (c .before .reserved .ensures) (c .if3 .left))
 
 pub allowed-spec : {M : Type 1} → statement M
 allowed-spec = tie.close (tie.spec returns returns-2 reserved-requires returns-3 returns-4)
