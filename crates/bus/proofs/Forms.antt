@@ -10,10 +10,10 @@ use lib.Dec.{eqb}
 use lib.ListN.{length}
 use borrow.Author.Tests.{eq-eqb, ne-eqb, eqb-true, eqb-false, lt-ltb}
 use Rattle.bus.specs.declared.Request.{Request}
-use Rattle.bus.specs.declared.Form.{Form}
-use Rattle.bus.specs.declared.Form.the-variants.{Unanswered, Misshapen, Miscoded, Good}
+use Rattle.bus.specs.declared.ReplyForm.{ReplyForm}
+use Rattle.bus.specs.declared.ReplyForm.the-variants.{Unanswered, Misshapen, Miscoded, Good}
 use Rattle.bus.specs.Bus.{eight, framed, readOf, readData, readBlock}
-use Rattle.bus.specs.Form.{wordAt, sealedOf, readForm, doneForm, formOf}
+use Rattle.bus.specs.ReplyForm.{wordAt, sealedOf, readForm, doneForm, formOf}
 use Rattle.bus.specs.InForm.{Made, write, register, block}
 use Rattle.bus.specs.InForm.{registerPec, blockPec, spelled, InForm, wrote, registerRead, blockRead}
 use Rattle.bus.specs.InForm.{WrongShape, writeBytes, registerBytes, blockBytes, blockCount, WrongPec, registerCode, blockCode, Says, Means}
@@ -55,7 +55,7 @@ unfolding formOf doneForm framed readOf eight readForm sealedOf pecFrom
 code-is (registerCode a b c d p h) = rw (ne-eqb _ _ (λ x. h (sym x)))
 code-is (blockCode command a b c d p h) = rw (ne-eqb _ _ (λ x. h (sym x)))
 
-says-is : (q : Request) (kind : ℕ) (rs : List ℕ) (x : Form) → Says q kind rs x → formOf q kind rs ≡ x
+says-is : (q : Request) (kind : ℕ) (rs : List ℕ) (x : ReplyForm) → Says q kind rs x → formOf q kind rs ≡ x
 unfolding Says
 says-is q kind rs Unanswered e = unanswered-is q kind rs e
 says-is q kind rs Misshapen (inl h) = above-is q kind rs h
@@ -66,7 +66,7 @@ says-is q kind rs (Good w) h = good-is h
 -- ---- each reply is of one kind
 
 abbrev Found : Request → ℕ → List ℕ → Type 0
-Found q kind rs = (x : Form) × Says q kind rs x
+Found q kind rs = (x : ReplyForm) × Says q kind rs x
 
 -- five bytes, or another count of them
 five : (P : List ℕ → Type 0) (rs : List ℕ) → ((length rs ≡ 5 → ⊥) → P rs) → ((a b c d p : ℕ) → P (a ∷ b ∷ c ∷ d ∷ p ∷ [])) → P rs

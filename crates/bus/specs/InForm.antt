@@ -6,10 +6,10 @@ use mathlib.Core.List.{List, [], _∷_}
 use Prim.Native.Nat.{ℕ, _+_, _*_, _<_}
 use lib.ListN.{length}
 use Rattle.bus.specs.declared.Request.{Request}
-use Rattle.bus.specs.declared.Form.{Form}
-use Rattle.bus.specs.declared.Form.the-variants.{Unanswered, Misshapen, Miscoded, Good}
+use Rattle.bus.specs.declared.ReplyForm.{ReplyForm}
+use Rattle.bus.specs.declared.ReplyForm.the-variants.{Unanswered, Misshapen, Miscoded, Good}
 use Rattle.bus.specs.Bus.{framed, readData, readBlock}
-use Rattle.bus.specs.Form.{formOf}
+use Rattle.bus.specs.ReplyForm.{formOf}
 use Rattle.pec.specs.Pec.{pec}
 
 -- the requests that there are: writes, and reads of a register and of a block
@@ -52,7 +52,7 @@ pub data WrongPec : Request → List ℕ → Type 0 where
 
 -- what each form says of a reply: 20, kind 0, whatever its bytes; 21, a kind above 1, or done in a wrong shape; 22, done with a
 -- wrong PEC; otherwise in form
-unfoldable pub Says : Request → ℕ → List ℕ → Form → Type 0
+unfoldable pub Says : Request → ℕ → List ℕ → ReplyForm → Type 0
 Says q kind rs Unanswered = kind ≡ 0
 Says q kind rs Misshapen = (1 < kind) ⊎ ((kind ≡ 1) × WrongShape q rs)
 Says q kind rs Miscoded = (kind ≡ 1) × WrongPec q rs
@@ -60,4 +60,4 @@ Says q kind rs (Good w) = InForm q kind rs w
 
 -- for every reply to this request: `formOf` gives a form exactly where the reply is what the form says
 unfoldable pub Means : Request → Type 0
-Means q = (kind : ℕ) (rs : List ℕ) (x : Form) → (formOf q kind rs ≡ x) ↔ Says q kind rs x
+Means q = (kind : ℕ) (rs : List ℕ) (x : ReplyForm) → (formOf q kind rs ≡ x) ↔ Says q kind rs x

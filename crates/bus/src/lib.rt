@@ -4,7 +4,7 @@ ghost use mathlib.Core.List.{[], _∷_};
 ghost use Prim.Native.Nat.{_+_, _≤_, _%_, _/_};
 ghost use lib.ListN.{length};
 ghost use Rattle.bus.specs.Bus.{framed, writeOf, pointTo, readOf, noRequest, wordBytes, reserved};
-ghost use Rattle.bus.specs.Form.{wordOf, sealedOf, readForm, formOf};
+ghost use Rattle.bus.specs.ReplyForm.{wordOf, sealedOf, readForm, formOf};
 
 // What is handed to the host: eight bytes, of which `used` are sent or, of a read, ask; the others are zeros.
 pub struct Request {
@@ -22,14 +22,16 @@ impl Bus {
 
     pub const READ: u8 = 0xC1;
 
-    // Command codes.
+    // Command codes. The guide's direct memory access is three: C7 sets the register's address, C5 reads or writes there, C6 does
+    // and moves the address on by one, which is its sequential access.
     pub const POINT: u8 = 0xC7;
 
     pub const DATA: u8 = 0xC5;
 
-    pub const BURST: u8 = 0xC6;
+    pub const SEQUENTIAL: u8 = 0xC6;
 
-    pub const COMMAND: u8 = 0xE7;
+    // E7 has no name in the guide. It makes the device act: 02 00 applies what step 1 wrote, 08 00 burns.
+    pub const ACT: u8 = 0xE7;
 
     pub const IDENTITY: u8 = 0xAD;
 
@@ -40,8 +42,8 @@ impl Bus {
 
     pub const NOTE_4: u8 = 0x02;
 
-    // Register addresses.
-    pub const TRIM: u16 = 0x00A2;
+    // Register addresses. Bit 5 of 00A2 is packet capture, which step 1 disables.
+    pub const CAPTURE: u16 = 0x00A2;
 
     pub const COUNTER: u16 = 0x0035;
 
@@ -143,13 +145,13 @@ impl Bus {
         if command == Bus::DATA {
             return true;
         }
-        if command == Bus::BURST {
+        if command == Bus::SEQUENTIAL {
             return true;
         }
         if command == Bus::POINT {
             return true;
         }
-        if command == Bus::COMMAND {
+        if command == Bus::ACT {
             return true;
         }
         if command == Bus::IDENTITY {
@@ -160,7 +162,7 @@ impl Bus {
 }
 
 // What a reply is found to be: 20, 21 or 22, or in form with the word read (0 for a write).
-pub enum Form {
+pub enum ReplyForm {
     Unanswered,
     Misshapen,
     Miscoded,
@@ -175,21 +177,21 @@ fn word(a: u8, b: u8, c: u8, d: u8) -> u32
 }
 
 // The word at this place, if the byte behind it is the PEC of C0, the command, C1 and the bytes before it.
-fn sealed(asked: [u8; 8], bytes: &[u8], at: usize) -> Form
+fn sealed(asked: [u8; 8], bytes: &[u8], at: usize) -> ReplyForm
     requires { ⌜ (at ≤ 1) × (length (now bytes) ≡ at + 5) ⌝ }
     ensures { λ r. ⌜ r ≡ sealedOf asked (now (bytes .entry)) at ⌝ }
 {
     let last = at + 4;
     let start = pec::of(&asked[..3]);
     if pec::run(start, &bytes[..last]) == bytes[last] {
-        Form::Good(word(bytes[at], bytes[at + 1], bytes[at + 2], bytes[at + 3]))
+        ReplyForm::Good(word(bytes[at], bytes[at + 1], bytes[at + 2], bytes[at + 3]))
     } else {
-        Form::Miscoded
+        ReplyForm::Miscoded
     }
 }
 
 // A read's reply has as many bytes as it was asked for: five, or six of which the first is 4.
-fn read_form(asked: [u8; 8], bytes: &[u8]) -> Form
+fn read_form(asked: [u8; 8], bytes: &[u8]) -> ReplyForm
     ensures { λ r. ⌜ r ≡ readForm asked (now (bytes .entry)) ⌝ }
 {
     let n = bytes.len();
@@ -201,35 +203,35 @@ fn read_form(asked: [u8; 8], bytes: &[u8]) -> Form
             if bytes[0] == 4 {
                 sealed(asked, bytes, 1)
             } else {
-                Form::Misshapen
+                ReplyForm::Misshapen
             }
         } else {
-            Form::Misshapen
+            ReplyForm::Misshapen
         }
     } else {
-        Form::Misshapen
+        ReplyForm::Misshapen
     }
 }
 
 impl Request {
     // The form of a reply to this request, tried at each reply before anything is read from it.
-    pub fn form(self, kind: u8, bytes: &[u8]) -> Form
+    pub fn form(self, kind: u8, bytes: &[u8]) -> ReplyForm
         ensures { λ r. ⌜ r ≡ formOf self kind (now (bytes .entry)) ⌝ }
     {
         if kind == 0 {
-            return Form::Unanswered;
+            return ReplyForm::Unanswered;
         }
         if 1 < kind {
-            return Form::Misshapen;
+            return ReplyForm::Misshapen;
         }
         if self.reads {
             let asked = self.bytes;
             return read_form(asked, bytes);
         }
         if bytes.len() == 0 {
-            Form::Good(0)
+            ReplyForm::Good(0)
         } else {
-            Form::Misshapen
+            ReplyForm::Misshapen
         }
     }
 }

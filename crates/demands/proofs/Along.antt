@@ -18,13 +18,13 @@ use Rattle.session.specs.declared.Settings.{Settings}
 use Rattle.session.specs.declared.Session.{Session}
 use Rattle.session.specs.declared.Handed.{Handed}
 use Rattle.session.specs.declared.Stage.the-variants.{Open}
-use Rattle.session.specs.declared.Step.the-variants.{TrimAt, CounterAt}
+use Rattle.session.specs.declared.Awaited.the-variants.{CaptureAt, CounterAt}
 use Rattle.session.specs.Moves.{withStage, withSent}
 use Rattle.session.specs.Begin.{newPosition, freshOf, firstOf, startOf}
 use Rattle.session.specs.Reply.{replyOf}
 use Rattle.demands.specs.Runs.{sent, after, bare, answerFor}
 use Rattle.demands.proofs.Rests
-use Rattle.demands.proofs.Places.{Kept, trim-at, counter-at}
+use Rattle.demands.proofs.Places.{Kept, capture-at, counter-at}
 use Rattle.demands.proofs.Fits.{rootOf, sizeOf, burnOf, Fits, other-fits, cond-fits}
 use Rattle.demands.proofs.Following.{onward, reply-fits}
 
@@ -79,14 +79,14 @@ module _ (text : List ℕ) (ls : List Line) where
   module _ (S : Settings) (file : Summary) (K : Kept text ls S file) where
     -- before the first request
     abbrev pub before : Session
-    before = freshOf S file (Open TrimAt) (newPosition firstLine (file .first))
+    before = freshOf S file (Open CaptureAt) (newPosition firstLine (file .line5))
 
     start-fits : Fits text ls before (guide file ls (S .wanted) (S .limit) (S .restore)) (startOf S file)
-    unfolding startOf freshOf newPosition firstOf withStage withSent writeOf framed isBurnMark Rests.trimAt Rests.counterAt
+    unfolding startOf freshOf newPosition firstOf withStage withSent writeOf framed isBurnMark Rests.captureAt Rests.counterAt
     start-fits =
         rw (Rests.guide-is file ls S)
         (cond-fits text ls before (S .wanted)
-        (other-fits text ls before before TrimAt _ _ 1 refl refl (omega arith) (trim-at (omega arith)) (omega arith) K)
+        (other-fits text ls before before CaptureAt _ _ 1 refl refl (omega arith) (capture-at (omega arith)) (omega arith) K)
         (other-fits text ls before before CounterAt _ _ 5 refl refl (omega arith) (counter-at (omega arith)) (omega arith) K))
 
     pub start-along : (rs : List Reply) → Along before (startOf S file) (guide file ls (S .wanted) (S .limit) (S .restore)) rs

@@ -9,14 +9,14 @@ use lib.ListN.{getD}
 use Rattle.pec.proofs.Laws.{pec-lt}
 use Rattle.line.specs.declared.Line.{Line}
 use Rattle.image.specs.declared.Summary.{Summary}
-use Rattle.bus.specs.declared.Form.the-variants.{Good}
+use Rattle.bus.specs.declared.ReplyForm.the-variants.{Good}
 use Rattle.bus.specs.Bus.{framed, writeOf, readData, readBlock}
-use Rattle.bus.specs.Form.{formOf}
+use Rattle.bus.specs.ReplyForm.{formOf}
 use Rattle.bus.specs.InForm.{write, register, block, registerPec, blockPec, wrote as wroteBytes, registerRead, blockRead, Says, Means}
 use Rattle.bus.proofs.Forms.{form-means}
 use Rattle.guide.specs.Plan.{Reply}
 use Rattle.guide.specs.Guide.{lineRequest, crcIn}
-use Rattle.guide.specs.Matched.{Exchange, wrote, got, Answered, none, more, opening}
+use Rattle.guide.specs.Matched.{Exchange, wrote, got, Heard, none, more, opening}
 use Rattle.guide.specs.Statements.{heard3, heard6}
 use Rattle.demands.specs.Demands.{OfBytes}
 
@@ -50,7 +50,7 @@ pub able-both : {xs ys : List Exchange} → Able xs → Able ys → Able (xs ++ 
 able-both end b = b
 able-both (and c a) b = and c (able-both a b)
 
-pub able-answered : {xs : List Exchange} → Able xs → (rs : List Reply) × Answered xs rs × ((r : Reply) → List·Memᴰ r rs → OfBytes r)
+pub able-answered : {xs : List Exchange} → Able xs → (rs : List Reply) × Heard xs rs × ((r : Reply) → List·Memᴰ r rs → OfBytes r)
 able-answered end = ([], none [], λ r m. absurd (List·Memᴰ·not-nil m))
 able-answered (and {x} {xs} c a) =
     let b = able-answered a in

@@ -8,10 +8,10 @@ use native.Mathlib.Omega.{arith}
 use lib.Seq.{getD-drop}
 use lib.ListN.{length, getD, drop, length-drop}
 use Rattle.line.specs.Lines.{linesOf}
-use Rattle.line.specs.Form.{LineForm}
+use Rattle.line.specs.LineForm.{LineForm}
 use Rattle.line.proofs.Basics.{split}
-use Rattle.image.specs.declared.Answer.{Answer}
-use Rattle.image.specs.declared.Answer.the-variants.{Accepted, Refused}
+use Rattle.image.specs.declared.FileAnswer.{FileAnswer}
+use Rattle.image.specs.declared.FileAnswer.the-variants.{Accepted, Refused}
 use Rattle.image.specs.Check.{answerNumber, checkOf}
 use Rattle.image.specs.Says.{summaryOf}
 use Rattle.image.specs.Meets.{numbered, Spelled, none, line, Meets}
@@ -20,7 +20,7 @@ use Rattle.bus.specs.declared.Request.{Request}
 use Rattle.guide.specs.Plan.{Reply, fileLine, Asked, Plan, requests}
 use Rattle.guide.specs.Guide.{lines, writeLinesOf, guideFor}
 use Rattle.guide.specs.Matched.{Matched}
-use Rattle.guide.specs.Statements.{burnsIn, beforeBurn, spellings, SpelledOnce, InForm}
+use Rattle.guide.specs.Statements.{burnsIn, beforeBurn, spellings, SpelledOnce, AllInForm}
 use Rattle.guide.proofs.Through.{asked}
 use Rattle.guide.proofs.Every.{behind}
 use Rattle.guide.proofs.Gating.{Reached, reached}
@@ -107,7 +107,7 @@ module _ (S : Settings) (text : List ℕ) (rs : List Reply) (P : Premises S text
     unfolding guideFor writeLinesOf
     whole = at3 .list ∙ rw (found .list, last-burns) (sym (append-assoc (at3 .before) _ _))
 
-    in-form : InForm earlier rs
+    in-form : AllInForm earlier rs
     in-form = at3 .form-there _ (found .form)
 
     one : burnsIn n list ≡ 1
@@ -165,6 +165,6 @@ headline S text rs b =
     split (allowedOf S) (λ e. by-file e (checkOf text .answer) refl)
     (λ e. no-burn (rw e (refused-sends S text Setting rs)) b)
   where
-    by-file : allowedOf S ≡ true → (a : Answer) → checkOf text .answer ≡ a → MayBurn S text rs
+    by-file : allowedOf S ≡ true → (a : FileAnswer) → checkOf text .answer ≡ a → MayBurn S text rs
     by-file e Accepted h = burn-allowed S text rs (record { accepted = ap answerNumber h; allowed = e }) b
     by-file e (Refused r) h = no-burn (rw (e, h) (refused-sends S text (File r) rs)) b

@@ -15,7 +15,7 @@ use Rattle.guide.specs.declared.Polled.the-variants.{Busy, Passed, Failed}
 use Rattle.guide.specs.Plan.{done}
 use Rattle.guide.specs.Guide.{polled, polls, crcIn, verify}
 use Rattle.session.specs.declared.Session.{Session}
-use Rattle.session.specs.declared.Step.the-variants.{StatusRead, BanksAt, Restore}
+use Rattle.session.specs.declared.Awaited.the-variants.{StatusRead, BanksAt, Restore}
 use Rattle.session.specs.Moves.{withStage, withPosition, withSent}
 use Rattle.session.specs.Stages.{atPolls, atConfig, pollAgainOf, polledDoneOf, restoreOf, restoreNextOf, crcDoneOf}
 use Rattle.demands.proofs.Rests

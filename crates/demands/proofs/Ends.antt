@@ -13,8 +13,8 @@ use Rattle.bus.specs.Bus.{writeOf, pointTo, readData}
 use Rattle.guide.specs.Judged.{banksWord}
 use Rattle.guide.specs.Plan.{Reply, Asked, requests}
 use Rattle.guide.specs.Guide.{crcIn, writeLinesOf}
-use Rattle.guide.specs.Matched.{Exchange, wrote, got, Answered, opening, Matched}
-use Rattle.guide.specs.Statements.{isBurnMark, burnsIn, beforeBurn, InForm, none, more, heard3, heard4, heard6, DoneWhen}
+use Rattle.guide.specs.Matched.{Exchange, wrote, got, Heard, opening, Matched}
+use Rattle.guide.specs.Statements.{isBurnMark, burnsIn, beforeBurn, AllInForm, none, more, heard3, heard4, heard6, DoneWhen}
 use Rattle.guide.proofs.FileFacts.{few-configs}
 use Rattle.guide.proofs.Banks.{word-small, word-are}
 use Rattle.guide.proofs.Through.{answered, through, split-answered, leads-requests, form-before}
@@ -31,12 +31,12 @@ use Rattle.demands.proofs.Answers.{Able, and, able-both, able-answered,
 
 -- ---- requests before the burn
 
-form-cut : (n : ℕ) {qs : List Asked} {rs : List Reply} → InForm qs rs → InForm (beforeBurn n qs) rs
+form-cut : (n : ℕ) {qs : List Asked} {rs : List Reply} → AllInForm qs rs → AllInForm (beforeBurn n qs) rs
 unfolding beforeBurn
 form-cut n (none rs) = none rs
 form-cut n (more q qs r rs w e f) = by (isBurnMark n (q .mark)) (form-cut n f)
   where
-    by : (b : Bool) → InForm (beforeBurn n qs) rs → InForm (cond b [] (q ∷ beforeBurn n qs)) (r ∷ rs)
+    by : (b : Bool) → AllInForm (beforeBurn n qs) rs → AllInForm (cond b [] (q ∷ beforeBurn n qs)) (r ∷ rs)
     by true g = none _
     by false g = more q _ r rs w e g
 
@@ -83,7 +83,7 @@ module _ (S : Settings) (text : List ℕ) (P : Premises S text) where
   rs : List Reply
   rs = able-answered able .0
 
-  all-answered : Answered (first ++ second) rs
+  all-answered : Heard (first ++ second) rs
   unfolding rs
   all-answered = able-answered able .1
 
@@ -94,7 +94,7 @@ module _ (S : Settings) (text : List ℕ) (P : Premises S text) where
   match : Matched file (S .wanted) rs
   match =
       record {
-        first = 0;
+        captured = 0;
         counter = counter;
         identity = file .identity;
         flag = 0;
@@ -120,7 +120,7 @@ module _ (S : Settings) (text : List ℕ) (P : Premises S text) where
       }
 
   -- every request was answered in form, so those before the burn were
-  in-form : InForm (requests (guideOf S text) rs) rs
+  in-form : AllInForm (requests (guideOf S text) rs) rs
   unfolding requests
   in-form =
       let l = leading text (S .wanted) (S .limit) (S .restore) rs done-when in

@@ -9,8 +9,8 @@ use lib.ListN.{length}
 use borrow.Author.Tests.{ne-eqb}
 use Rattle.line.specs.declared.Line.{Line}
 use Rattle.bus.specs.declared.Request.{Request}
-use Rattle.bus.specs.declared.Form.{Form}
-use Rattle.bus.specs.declared.Form.the-variants.{Unanswered, Misshapen, Miscoded, Good}
+use Rattle.bus.specs.declared.ReplyForm.{ReplyForm}
+use Rattle.bus.specs.declared.ReplyForm.the-variants.{Unanswered, Misshapen, Miscoded, Good}
 use Rattle.bus.specs.Bus.{noRequest}
 use Rattle.guide.specs.declared.Verdict.{Verdict}
 use Rattle.guide.specs.declared.Verdict.the-variants.{Nack, Shape, Pec}
@@ -21,9 +21,9 @@ use Rattle.guide.proofs.Through.{asked}
 use Rattle.session.specs.declared.Session.{Session}
 use Rattle.session.specs.declared.Handed.{Handed}
 use Rattle.session.specs.declared.Stage.the-variants.{Open}
-use Rattle.session.specs.declared.Step.{Step}
+use Rattle.session.specs.declared.Awaited.{Awaited}
 use Rattle.session.specs.Moves.{withStage, withSent, putOf, endOf}
-use Rattle.session.specs.Reply.{stepOf, repliedOf}
+use Rattle.session.specs.Reply.{followOf, repliedOf}
 use Rattle.demands.specs.Runs.{putOut, answerFor}
 use Rattle.demands.proofs.Places.{handOf, Kept, Bounds, At, Sim, running, finished}
 
@@ -45,7 +45,7 @@ unfolding putOut
 putOut-some q h = rw (ne-eqb (q .used) 0 (omega arith))
 
 -- the state that holds this request
-abbrev pub holding : Session → Step → Request → Session
+abbrev pub holding : Session → Awaited → Request → Session
 holding s g q = withSent (withStage s (Open g) q) (s .sent + 1)
 
 module _ (text : List ℕ) (ls : List Line) where
@@ -61,7 +61,7 @@ module _ (text : List ℕ) (ls : List Line) where
   unfolding endOf withStage noRequest putOut rootOf sizeOf burnOf answerFor verdict
   end-fits s v = record { sim = finished; out = refl; counting = omega arith; burning = sym (or-false (s .burned)); says = refl }
 
-  pub hear-fits : (s : Session) (g : Step) (next : ℕ → Plan) (h : Form) → ((w : ℕ) → Fits s (next w) (stepOf text s g w))
+  pub hear-fits : (s : Session) (g : Awaited) (next : ℕ → Plan) (h : ReplyForm) → ((w : ℕ) → Fits s (next w) (followOf text s g w))
       → Fits s (hear h next) (repliedOf text s g h)
   unfolding hear repliedOf
   hear-fits s g next Unanswered f = end-fits s Nack
@@ -69,7 +69,7 @@ module _ (text : List ℕ) (ls : List Line) where
   hear-fits s g next Miscoded f = end-fits s Pec
   hear-fits s g next (Good w) f = f w
 
-  pub put-fits : (s t : Session) (g : Step) (m : Mark) (q : Request) (next : Reply → Plan) (most : ℕ)
+  pub put-fits : (s t : Session) (g : Awaited) (m : Mark) (q : Request) (next : Reply → Plan) (most : ℕ)
       → t .sent ≡ s .sent → t .burned ≡ (s .burned || isBurnMark (4 + length ls) m) → 1 ≤ q .used
       → At text ls (holding t g q) g most (ask (asked m q) next) → Bounds text ls (holding t g q) most → Kept text ls (t .settings) (t .file)
       → Fits s (ask (asked m q) next) (putOf t g q)
@@ -78,7 +78,7 @@ module _ (text : List ℕ) (ls : List Line) where
       record { sim = running refl refl a l K; out = putOut-some q u; counting = omega arith; burning = b; says = refl }
 
   -- a request that is no write line of the file
-  pub other-fits : (s t : Session) (g : Step) (q : Request) (next : Reply → Plan) (most : ℕ)
+  pub other-fits : (s t : Session) (g : Awaited) (q : Request) (next : Reply → Plan) (most : ℕ)
       → t .sent ≡ s .sent → t .burned ≡ s .burned → 1 ≤ q .used
       → At text ls (holding t g q) g most (ask (asked other q) next) → Bounds text ls (holding t g q) most → Kept text ls (t .settings) (t .file)
       → Fits s (ask (asked other q) next) (putOf t g q)

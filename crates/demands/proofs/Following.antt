@@ -8,22 +8,22 @@ use borrow.Author.Tests.{lt-ltb, le-leb}
 use Rattle.line.specs.declared.Line.{Line}
 use Rattle.bus.specs.declared.Request.{Request}
 use Rattle.bus.specs.Bus.{framed, writeOf, readOf, noRequest, pointTo}
-use Rattle.bus.specs.Form.{formOf}
+use Rattle.bus.specs.ReplyForm.{formOf}
 use Rattle.guide.specs.declared.Verdict.the-variants.{Banks}
 use Rattle.guide.specs.Judged.{polledOf, banksRight}
 use Rattle.guide.specs.Plan.{Reply, Plan, ask, done, verdict}
 use Rattle.guide.specs.Guide.{hear, lineRequest, polls}
 use Rattle.session.specs.declared.Session.{Session}
 use Rattle.session.specs.declared.Stage.{Stage}
-use Rattle.session.specs.declared.Step.{Step}
-use Rattle.session.specs.declared.Step.the-variants.{TrimAt, TrimRead, TrimWrite, TrimDo, CounterAt, CounterRead, IdentityRead, FlagAt, FlagRead, RevisionRead, LineOut, StatusAt, StatusRead, BanksAt, BanksRead, Restore, CrcAt, CrcRead}
+use Rattle.session.specs.declared.Awaited.{Awaited}
+use Rattle.session.specs.declared.Awaited.the-variants.{CaptureAt, CaptureRead, CaptureWrite, CaptureApply, CounterAt, CounterRead, IdentityRead, FlagAt, FlagRead, RevisionRead, LineOut, StatusAt, StatusRead, BanksAt, BanksRead, Restore, CrcAt, CrcRead}
 use Rattle.session.specs.Moves.{withStage, withPosition, withSent, overOf}
 use Rattle.session.specs.Sound.{all, mostSent, heldTests, heldSound, stateTests, soundOf}
 use Rattle.session.specs.Stages.{atCounter, atIdentity, atFlag, counterDoneOf, identityDoneOf, flagDoneOf, fitHeld, revisionDoneOf, statusDoneOf, banksDoneOf}
-use Rattle.session.specs.Reply.{stepOf, repliedOf, stageOf, replyOf}
+use Rattle.session.specs.Reply.{followOf, repliedOf, stageOf, replyOf}
 use Rattle.demands.specs.Runs.{putOut, answerFor}
 use Rattle.demands.proofs.Rests
-use Rattle.demands.proofs.Places.{handOf, Kept, Bounds, line, config, At, trim-at, trim-read, trim-write, trim-do, counter-at, counter-read, identity-read, flag-at, flag-read, revision-read, line-out, status-at, status-read, banks-at, banks-read, restore, crc-at, crc-read, Sim, running, finished}
+use Rattle.demands.proofs.Places.{handOf, Kept, Bounds, line, config, At, capture-at, capture-read, capture-write, capture-apply, counter-at, counter-read, identity-read, flag-at, flag-read, revision-read, line-out, status-at, status-read, banks-at, banks-read, restore, crc-at, crc-read, Sim, running, finished}
 use Rattle.demands.proofs.Fits.{rootOf, sizeOf, burnOf, Fits, end-fits, hear-fits, other-fits, cond-fits}
 use Rattle.demands.proofs.Writing.{next-line-fits, gate-fits}
 use Rattle.demands.proofs.Checking.{polled-fits, first-restore-fits, crc-fits}
@@ -34,20 +34,20 @@ onward (ask q next) r = next r
 onward (done v) r = done v
 
 module _ (text : List ℕ) (ls : List Line) (s : Session) where
-  step-fits : {g : Step} {most : ℕ} {p : Plan} → At text ls s g most p → Bounds text ls s most → Kept text ls (s .settings) (s .file) → (r : Reply)
+  step-fits : {g : Awaited} {most : ℕ} {p : Plan} → At text ls s g most p → Bounds text ls s most → Kept text ls (s .settings) (s .file) → (r : Reply)
       → Fits text ls s (onward p r) (repliedOf text s g (formOf (handOf p) (r .kind) (r .bytes)))
-  unfolding onward handOf stepOf writeOf readOf framed withStage withPosition withSent Rests.trimAt Rests.trimRead Rests.trimWrite Rests.trimDo Rests.counterAt Rests.counterRead Rests.identityRead Rests.flagAt Rests.flagRead Rests.revisionRead Rests.lineOut Rests.statusAt Rests.statusRead Rests.banksAt Rests.banksRead Rests.restore Rests.crcAt Rests.crcRead polls lineRequest counterDoneOf identityDoneOf flagDoneOf fitHeld revisionDoneOf statusDoneOf banksDoneOf atCounter atIdentity atFlag
-  step-fits (trim-at f) b K r =
-      hear-fits text ls s TrimAt _ _ λ w.
-      other-fits text ls s s TrimRead _ _ 2 refl refl (omega arith) (trim-read (omega arith)) (omega arith) K
-  step-fits (trim-read f) b K r =
-      hear-fits text ls s TrimRead _ _ λ w.
-      other-fits text ls s s TrimWrite _ _ 3 refl refl (omega arith) (trim-write w (omega arith)) (omega arith) K
-  step-fits (trim-write w f) b K r =
-      hear-fits text ls s TrimWrite _ _ λ _.
-      other-fits text ls s s TrimDo _ _ 4 refl refl (omega arith) (trim-do (omega arith)) (omega arith) K
-  step-fits (trim-do f) b K r =
-      hear-fits text ls s TrimDo _ _ λ _.
+  unfolding onward handOf followOf writeOf readOf framed withStage withPosition withSent Rests.captureAt Rests.captureRead Rests.captureWrite Rests.captureApply Rests.counterAt Rests.counterRead Rests.identityRead Rests.flagAt Rests.flagRead Rests.revisionRead Rests.lineOut Rests.statusAt Rests.statusRead Rests.banksAt Rests.banksRead Rests.restore Rests.crcAt Rests.crcRead polls lineRequest counterDoneOf identityDoneOf flagDoneOf fitHeld revisionDoneOf statusDoneOf banksDoneOf atCounter atIdentity atFlag
+  step-fits (capture-at f) b K r =
+      hear-fits text ls s CaptureAt _ _ λ w.
+      other-fits text ls s s CaptureRead _ _ 2 refl refl (omega arith) (capture-read (omega arith)) (omega arith) K
+  step-fits (capture-read f) b K r =
+      hear-fits text ls s CaptureRead _ _ λ w.
+      other-fits text ls s s CaptureWrite _ _ 3 refl refl (omega arith) (capture-write w (omega arith)) (omega arith) K
+  step-fits (capture-write w f) b K r =
+      hear-fits text ls s CaptureWrite _ _ λ _.
+      other-fits text ls s s CaptureApply _ _ 4 refl refl (omega arith) (capture-apply (omega arith)) (omega arith) K
+  step-fits (capture-apply f) b K r =
+      hear-fits text ls s CaptureApply _ _ λ _.
       other-fits text ls s s CounterAt _ _ 5 refl refl (omega arith) (counter-at (omega arith)) (omega arith) K
   step-fits (counter-at f) b K r =
       hear-fits text ls s CounterAt _ _ λ _.

@@ -16,8 +16,8 @@ use Rattle.session.specs.declared.Settings.{Settings}
 use Rattle.session.specs.declared.Session.{Session}
 use Rattle.session.specs.declared.Stage.{Stage}
 use Rattle.session.specs.declared.Stage.the-variants.{Open, Ended}
-use Rattle.session.specs.declared.Step.{Step}
-use Rattle.session.specs.declared.Step.the-variants.{TrimAt, TrimRead, TrimWrite, TrimDo, CounterAt, CounterRead, IdentityRead, FlagAt, FlagRead, RevisionRead, LineOut, StatusAt, StatusRead, BanksAt, BanksRead, Restore, CrcAt, CrcRead}
+use Rattle.session.specs.declared.Awaited.{Awaited}
+use Rattle.session.specs.declared.Awaited.the-variants.{CaptureAt, CaptureRead, CaptureWrite, CaptureApply, CounterAt, CounterRead, IdentityRead, FlagAt, FlagRead, RevisionRead, LineOut, StatusAt, StatusRead, BanksAt, BanksRead, Restore, CrcAt, CrcRead}
 use Rattle.session.specs.Sound.{allowedOf, fileSound}
 use Rattle.demands.proofs.Rests
 
@@ -35,7 +35,7 @@ module _ (text : List ℕ) (ls : List Line) where
     pub someConfig : 1 ≤ file .configs
     pub someLine : 1 ≤ length ls
     pub linesAre : file .lines ≡ 4 + length ls
-    pub holds : Holds text (file .first) 5 ls
+    pub holds : Holds text (file .line5) 5 ls
     pub burns : BurnLast ls
 
   -- within what 15 asks, and so many requests out at the most
@@ -49,7 +49,7 @@ module _ (text : List ℕ) (ls : List Line) where
 
   -- before any write line
   pub record Fresh (s : Session) : Type 0 where
-    pub fromStart : s .position .place ≡ s .file .first
+    pub fromStart : s .position .place ≡ s .file .line5
     pub atFive : s .position .line .0 ≡ 5
     pub noConfigs : s .position .config .0 ≡ 0
     pub noPolls : s .position .polls ≡ 0
@@ -68,11 +68,11 @@ module _ (text : List ℕ) (ls : List Line) where
     config = s .position .config .0
 
     -- the step, the most requests that are out, and the rest of the guide
-    pub data At : Step → ℕ → Plan → Type 0 where
-      trim-at : Fresh s → At TrimAt 1 (Rests.trimAt F ls G)
-      trim-read : Fresh s → At TrimRead 2 (Rests.trimRead F ls G)
-      trim-write : (w : ℕ) → Fresh s → At TrimWrite 3 (Rests.trimWrite F ls G w)
-      trim-do : Fresh s → At TrimDo 4 (Rests.trimDo F ls G)
+    pub data At : Awaited → ℕ → Plan → Type 0 where
+      capture-at : Fresh s → At CaptureAt 1 (Rests.captureAt F ls G)
+      capture-read : Fresh s → At CaptureRead 2 (Rests.captureRead F ls G)
+      capture-write : (w : ℕ) → Fresh s → At CaptureWrite 3 (Rests.captureWrite F ls G w)
+      capture-apply : Fresh s → At CaptureApply 4 (Rests.captureApply F ls G)
       counter-at : Fresh s → At CounterAt 5 (Rests.counterAt F ls G)
       counter-read : Fresh s → At CounterRead 6 (Rests.counterRead F ls G)
       identity-read : Fresh s → At IdentityRead 7 (Rests.identityRead F ls G (s .position .counter))
@@ -91,6 +91,6 @@ module _ (text : List ℕ) (ls : List Line) where
       crc-read : (left : ℕ) → config + suc left ≡ F .configs → At CrcRead (F .lines + 12 + G .limit + 3 * config) (Rests.crcRead F ls G left config)
 
     pub data Sim : Stage → Plan → Type 0 where
-      running : {g : Step} {most : ℕ} {p : Plan} → verdict p [] ≡ waiting → s .hand ≡ handOf p → At g most p → Bounds s most → Kept G F
+      running : {g : Awaited} {most : ℕ} {p : Plan} → verdict p [] ≡ waiting → s .hand ≡ handOf p → At g most p → Bounds s most → Kept G F
           → Sim (Open g) p
       finished : {v : Verdict} → Sim (Ended v) (done v)

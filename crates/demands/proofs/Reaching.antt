@@ -9,16 +9,16 @@ use lib.ListN.{length, getD}
 use borrow.Author.Tests.{eq-eqb, ne-eqb}
 use Rattle.line.specs.Digits.{digitVal, valuesOf}
 use Rattle.line.specs.Reading.{lineOf}
-use Rattle.line.specs.Form.{LineForm, Spells}
+use Rattle.line.specs.LineForm.{LineForm, Spells}
 use Rattle.line.proofs.Spelling.{spells-values}
 use Rattle.image.specs.Meets.{Spelled, none, line}
 use Rattle.bus.specs.declared.Request.{Request}
-use Rattle.bus.specs.declared.Form.{Form}
-use Rattle.bus.specs.declared.Form.the-variants.{Unanswered, Misshapen, Miscoded, Good}
-use Rattle.bus.specs.Form.{formOf}
+use Rattle.bus.specs.declared.ReplyForm.{ReplyForm}
+use Rattle.bus.specs.declared.ReplyForm.the-variants.{Unanswered, Misshapen, Miscoded, Good}
+use Rattle.bus.specs.ReplyForm.{formOf}
 use Rattle.guide.specs.Plan.{Reply, fileLine, Asked, Plan, requests}
 use Rattle.guide.specs.Guide.{hear, lineRequest, lines, linesAs}
-use Rattle.guide.specs.Statements.{isBurnMark, burnsIn, beforeBurn, InForm}
+use Rattle.guide.specs.Statements.{isBurnMark, burnsIn, beforeBurn, AllInForm}
 use Rattle.guide.specs.Statements as said
 use Rattle.guide.proofs.Through.{asked}
 use Rattle.demands.specs.Runs.{bare}
@@ -47,7 +47,7 @@ module _ (n : ℕ) (rest : Plan) where
     pub last-is : last ≡ getD vs (length vs - 1) []
     pub list : out i ts rs ≡ marked i sofar ++ (asked (fileLine n) (asItStands last) ∷ behind)
     pub cut : beforeBurn n (out i ts rs) ≡ marked i sofar
-    pub form : InForm (marked i sofar) rs
+    pub form : AllInForm (marked i sofar) rs
 
   -- the request of line i as the guide has it
   abbrev Stands : ℕ → List ℕ → List ℕ → Type 0
@@ -95,7 +95,7 @@ module _ (n : ℕ) (rest : Plan) where
     on-line [] h go = absurd (let y : ⊥ = omega (arith, rw other at h) in y)
     on-line (r ∷ rs) h go = by-form (formOf (lineRequest (lineOf (valuesOf digitVal t))) (r .kind) (r .bytes)) refl
       where
-        by-form : (x : Form) → formOf (lineRequest (lineOf (valuesOf digitVal t))) (r .kind) (r .bytes) ≡ x
+        by-form : (x : ReplyForm) → formOf (lineRequest (lineOf (valuesOf digitVal t))) (r .kind) (r .bytes) ≡ x
             → Reach i (t ∷ t2 ∷ ts) (v ∷ v2 ∷ vs) (r ∷ rs)
         by-form Unanswered e = absurd (let y : ⊥ = omega (arith, rw (other, e) at h) in y)
         by-form Misshapen e = absurd (let y : ⊥ = omega (arith, rw (other, e) at h) in y)

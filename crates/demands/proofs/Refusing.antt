@@ -7,19 +7,19 @@ use Prim.Native.Nat.{ℕ, _+_}
 use native.Mathlib.Omega.{arith}
 use lib.Dec.{eqb, ltb}
 use Rattle.counts.specs.declared.LineNumber.{LineNumber}
-use Rattle.line.specs.declared.Step as line
-use Rattle.line.specs.declared.Step.the-variants.{End, Took, Stopped}
+use Rattle.line.specs.declared.NextLine as line
+use Rattle.line.specs.declared.NextLine.the-variants.{End, Took, Stopped}
 use Rattle.line.proofs.Basics.{split}
-use Rattle.image.specs.declared.Answer as image
-use Rattle.image.specs.declared.Answer.the-variants.{Accepted, Refused}
+use Rattle.image.specs.declared.FileAnswer as image
+use Rattle.image.specs.declared.FileAnswer.the-variants.{Accepted, Refused}
 use Rattle.image.specs.declared.Summary.{Summary}
 use Rattle.image.specs.Says.{isBurn}
 use Rattle.image.specs.Check.{checkOf}
 use Rattle.bus.specs.declared.Request.{Request}
-use Rattle.bus.specs.declared.Form.{Form}
-use Rattle.bus.specs.declared.Form.the-variants.{Unanswered, Misshapen, Miscoded, Good}
+use Rattle.bus.specs.declared.ReplyForm.{ReplyForm}
+use Rattle.bus.specs.declared.ReplyForm.the-variants.{Unanswered, Misshapen, Miscoded, Good}
 use Rattle.bus.specs.Bus.{noRequest}
-use Rattle.bus.specs.Form.{formOf}
+use Rattle.bus.specs.ReplyForm.{formOf}
 use Rattle.guide.specs.declared.Verdict.{Verdict}
 use Rattle.guide.specs.declared.Verdict.the-variants.{Setting, File}
 use Rattle.guide.specs.declared.Fit.{Fit}
@@ -33,14 +33,14 @@ use Rattle.session.specs.declared.Session.{Session}
 use Rattle.session.specs.declared.Handed.{Handed}
 use Rattle.session.specs.declared.Stage.{Stage}
 use Rattle.session.specs.declared.Stage.the-variants.{Open, Ended}
-use Rattle.session.specs.declared.Step.{Step}
-use Rattle.session.specs.declared.Step.the-variants.{TrimAt, TrimRead, TrimWrite, TrimDo, CounterAt, CounterRead, IdentityRead, FlagAt, FlagRead, RevisionRead, LineOut, StatusAt, StatusRead, BanksAt, BanksRead, Restore, CrcAt, CrcRead}
+use Rattle.session.specs.declared.Awaited.{Awaited}
+use Rattle.session.specs.declared.Awaited.the-variants.{CaptureAt, CaptureRead, CaptureWrite, CaptureApply, CounterAt, CounterRead, IdentityRead, FlagAt, FlagRead, RevisionRead, LineOut, StatusAt, StatusRead, BanksAt, BanksRead, Restore, CrcAt, CrcRead}
 use Rattle.session.specs.declared.Answer.the-variants.{Next, Over, BadState}
 use Rattle.session.specs.Moves.{putOf, endOf, badOf, overOf}
 use Rattle.session.specs.Sound.{soundOf, allowedOf}
 use Rattle.session.specs.Lines.{duePutOf, tookOf, dueOf, putLineOf, lineDoneOf}
 use Rattle.session.specs.Stages.{counterDoneOf, identityDoneOf, flagDoneOf, fitDoneOf, fitHeld, revisionDoneOf, pollAgainOf, polledDoneOf, statusDoneOf, restoreOf, banksDoneOf, restoreNextOf, crcDoneOf}
-use Rattle.session.specs.Reply.{stepOf, repliedOf, stageOf, replyOf}
+use Rattle.session.specs.Reply.{followOf, repliedOf, stageOf, replyOf}
 use Rattle.session.specs.Begin.{freshOf, firstOf, startOf, refusedOf, answeredOf, checkedOf, beginOf}
 use Rattle.demands.specs.Demands.{RefusedReply, RefusedStart}
 
@@ -55,7 +55,7 @@ module _ (text : List ℕ) (s : Session) where
   unfolding badOf
   bad e = (refl, refl)
 
-  put : (t : Session) (g : Step) (q : Request) → Leaves (putOf t g q)
+  put : (t : Session) (g : Awaited) (q : Request) → Leaves (putOf t g q)
   unfolding putOf
   put t g q e = let z : _≡_ {A = ℕ} 0 1 = cc in absurd (let y : ⊥ = omega arith in y)
 
@@ -71,7 +71,7 @@ module _ (text : List ℕ) (s : Session) where
   either true f g = f
   either false f g = g
 
-  due : (n : LineNumber) (x : line.Step) → Leaves (dueOf s n x)
+  due : (n : LineNumber) (x : line.NextLine) → Leaves (dueOf s n x)
   unfolding dueOf tookOf duePutOf
   due n End = bad
   due n (Took l next) =
@@ -90,12 +90,12 @@ module _ (text : List ℕ) (s : Session) where
   status Passed = put _ _ _
   status Failed = end _
 
-  step : (g : Step) (w : ℕ) → Leaves (stepOf text s g w)
-  unfolding stepOf counterDoneOf identityDoneOf flagDoneOf revisionDoneOf lineDoneOf putLineOf statusDoneOf banksDoneOf restoreOf crcDoneOf restoreNextOf
-  step TrimAt w = put _ _ _
-  step TrimRead w = put _ _ _
-  step TrimWrite w = put _ _ _
-  step TrimDo w = put _ _ _
+  step : (g : Awaited) (w : ℕ) → Leaves (followOf text s g w)
+  unfolding followOf counterDoneOf identityDoneOf flagDoneOf revisionDoneOf lineDoneOf putLineOf statusDoneOf banksDoneOf restoreOf crcDoneOf restoreNextOf
+  step CaptureAt w = put _ _ _
+  step CaptureRead w = put _ _ _
+  step CaptureWrite w = put _ _ _
+  step CaptureApply w = put _ _ _
   step CounterAt w = put _ _ _
   step CounterRead w = put _ _ _
   step IdentityRead w = put _ _ _
@@ -113,7 +113,7 @@ module _ (text : List ℕ) (s : Session) where
       either (eqb w (crcIn (s .file) (s .position .config .0)))
       (either (ltb (s .position .config .0 + 1) (s .file .configs)) (put _ _ _) (end _)) (end _)
 
-  replied : (g : Step) (x : Form) → Leaves (repliedOf text s g x)
+  replied : (g : Awaited) (x : ReplyForm) → Leaves (repliedOf text s g x)
   unfolding repliedOf
   replied g Unanswered = end _
   replied g Misshapen = end _
@@ -151,7 +151,7 @@ first-starts s = split (s .settings .wanted) (λ b. rw b (λ v e. never e)) (λ 
     never : {A : Type 0} {v : Verdict} → Next ≡ Over v → A
     never e = let z : _≡_ {A = ℕ} 0 1 = cc in absurd (let y : ⊥ = omega arith in y)
 
-answered-starts : (S : Settings) (f : Summary) (a : image.Answer) → Starts (answeredOf S f a)
+answered-starts : (S : Settings) (f : Summary) (a : image.FileAnswer) → Starts (answeredOf S f a)
 unfolding answeredOf startOf
 answered-starts S f Accepted = first-starts _
 answered-starts S f (Refused r) = refused-starts S (File r)

@@ -70,18 +70,18 @@ module _ (file : Summary) (ls : List Line) (S : Settings) where
   counterAt = write (pointTo 0x35 0x00) counterRead
 
   -- step 1
-  unfoldable pub trimDo : Plan
-  trimDo = write (writeOf 0xE7 (0x02 ∷ 0x00 ∷ [])) counterAt
+  unfoldable pub captureApply : Plan
+  captureApply = write (writeOf 0xE7 (0x02 ∷ 0x00 ∷ [])) counterAt
 
-  unfoldable pub trimWrite : ℕ → Plan
-  trimWrite w = write (writeOf 0xC5 (wordBytes (cleared w))) trimDo
+  unfoldable pub captureWrite : ℕ → Plan
+  captureWrite w = write (writeOf 0xC5 (wordBytes (cleared w))) captureApply
 
-  unfoldable pub trimRead : Plan
-  trimRead = read readData λ w. trimWrite w
+  unfoldable pub captureRead : Plan
+  captureRead = read readData λ w. captureWrite w
 
-  unfoldable pub trimAt : Plan
-  trimAt = write (pointTo 0xA2 0x00) trimRead
+  unfoldable pub captureAt : Plan
+  captureAt = write (pointTo 0xA2 0x00) captureRead
 
-  pub guide-is : guide file ls (S .wanted) (S .limit) (S .restore) ≡ cond (S .wanted) trimAt counterAt
-  unfolding guide step1 step2 step4 step5 trimAt trimRead trimWrite trimDo counterAt counterRead identityRead flagAt flagRead revisionRead linesFrom statusAt statusRead banksAt banksRead
+  pub guide-is : guide file ls (S .wanted) (S .limit) (S .restore) ≡ cond (S .wanted) captureAt counterAt
+  unfolding guide step1 step2 step4 step5 captureAt captureRead captureWrite captureApply counterAt counterRead identityRead flagAt flagRead revisionRead linesFrom statusAt statusRead banksAt banksRead
   guide-is = refl

@@ -8,13 +8,13 @@ use Prim.Native.Nat.{ℕ, suc, _+_, _≤_}
 use native.Mathlib.Omega.{arith}
 use Rattle.image.specs.Says.{summaryOf}
 use Rattle.bus.specs.declared.Request.{Request}
-use Rattle.bus.specs.declared.Form.the-variants.{Good}
+use Rattle.bus.specs.declared.ReplyForm.the-variants.{Good}
 use Rattle.bus.specs.Bus.{eight, writeOf}
 use Rattle.bus.specs.InForm.{Made, write, register, block, Says, Means}
 use Rattle.bus.proofs.Forms.{form-means}
 use Rattle.guide.specs.Plan.{Reply, Asked, requests}
 use Rattle.guide.specs.Guide.{lineRequest, writeLinesOf, guideFor}
-use Rattle.guide.specs.Statements.{sameBytes, burnBytes, spellings, InForm}
+use Rattle.guide.specs.Statements.{sameBytes, burnBytes, spellings, AllInForm}
 use Rattle.guide.specs.Statements as said
 use Rattle.guide.proofs.Every.{every-request, Other, point, word, identity, revision, set, command, load, guide-every}
 use Rattle.demands.specs.Runs.{bare}
@@ -50,7 +50,7 @@ mem-spelled (q ∷ qs) m =
 
 -- ---- replies in form
 
-pub said-in-form : (qs : List Asked) (rs : List Reply) → ((q : Asked) → List·Memᴰ q qs → Made (q .request)) → InForm qs rs → Answered (bare qs) rs
+pub said-in-form : (qs : List Asked) (rs : List Reply) → ((q : Asked) → List·Memᴰ q qs → Made (q .request)) → AllInForm qs rs → Answered (bare qs) rs
 unfolding bare Says Means
 said-in-form _ _ made (said.none rs) = none rs
 said-in-form _ _ made (said.more q qs r rs w e f) =

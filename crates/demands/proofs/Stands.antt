@@ -9,7 +9,7 @@ use lib.Dec.{eqb}
 use lib.ListN.{length, drop, getD, length-append, length-take}
 use borrow.Author.Tests.{eqb-true}
 use Rattle.line.specs.Reading.{lineOf}
-use Rattle.line.specs.Form.{Row, identity, revision, third, fourth, two, four, LineForm}
+use Rattle.line.specs.LineForm.{Row, identity, revision, third, fourth, two, four, LineForm}
 use Rattle.line.proofs.Basics.{and-true}
 use Rattle.image.specs.Meets.{BurnBytes}
 use Rattle.bus.specs.declared.Request.{Request}

@@ -12,7 +12,7 @@ use Rattle.pec.specs.Lent.{IsTable, stepWith, runWith}
 use Rattle.pec.proofs.Unique.{one-table}
 use Rattle.bus.specs.declared.Request.{Request}
 use Rattle.bus.specs.Bus.{framed, writeOf, pointTo, readOf, noRequest, wordBytes, reserved}
-use Rattle.bus.specs.Form.{formOf}
+use Rattle.bus.specs.ReplyForm.{formOf}
 use Rattle.counts.specs.declared.Kind.{Kind}
 use Rattle.counts.specs.declared.LineNumber.{LineNumber}
 use Rattle.counts.specs.declared.ConfigNumber.{ConfigNumber}
@@ -22,8 +22,8 @@ use Rattle.text.proofs.Unique.{one-put}
 use Rattle.line.specs.declared.Fault.{Fault}
 use Rattle.line.specs.Lines.{placeOf}
 use Rattle.line.specs.Digits.{digitBy, IsDigits}
-use Rattle.line.specs.Reading.{faultNumber, stepAt}
-use Rattle.line.specs.Lent.{lentStep}
+use Rattle.line.specs.Reading.{faultNumber, nextLine}
+use Rattle.line.specs.Lent.{lentNext}
 
 -- a promise allows one result
 abbrev pub One : {A : Type 0} → (A → Type 0) → Type 0
@@ -146,10 +146,10 @@ line-digits r q e f =
     let small : i < 256 = omega (arith, e .size) in
     (simp (lt-ltb i 256 small) at (e .entry i)) ∙ sym (simp (lt-ltb i 256 small) at (f .entry i))
 
-pub line-read-at : (digits table s : List ℕ) (at : ℕ) (n : LineNumber) → One (λ r. r ≡ lentStep digits table n at s)
+pub line-read-at : (digits table s : List ℕ) (at : ℕ) (n : LineNumber) → One (λ r. r ≡ lentNext digits table n at s)
 line-read-at digits table s at n = one-answer _
 
-pub line-read-one : (s : List ℕ) (at : ℕ) (n : LineNumber) → One (λ r. r ≡ stepAt n at s)
+pub line-read-one : (s : List ℕ) (at : ℕ) (n : LineNumber) → One (λ r. r ≡ nextLine n at s)
 line-read-one s at n = one-answer _
 
 pub line-skip : (s : List ℕ) (at lines : ℕ) → One (λ r. r ≡ at + placeOf lines (drop at s))

@@ -8,12 +8,12 @@ use Rattle.pec.specs.Lent.{runWith}
 use Rattle.counts.specs.declared.Kind.{Kind}
 use Rattle.line.specs.declared.Line.{Line}
 use Rattle.image.specs.declared.Refusal.{Refusal}
-use Rattle.image.specs.declared.Answer as image
+use Rattle.image.specs.declared.FileAnswer as image
 use Rattle.image.specs.Says.{isBurn, noSummary}
 use Rattle.image.specs.Check.{refusalNumber, refusalLine, answerNumber, answerLine, checkOf}
 use Rattle.guide.specs.declared.Verdict.{Verdict}
-use Rattle.guide.specs.Numbers.{numberOf, lineOf, configOf}
-use Rattle.guide.specs.Judged.{cleared, wantedOf, fitOf, polledOf, banksRight}
+use Rattle.guide.specs.Numbers.{verdictNumber, verdictLine, verdictConfig}
+use Rattle.guide.specs.Judged.{cleared, kindWanted, fitOf, polledOf, banksRight}
 use Rattle.guide.specs.Guide.{lineRequest}
 use Rattle.shown.specs.Shown.{shown}
 use Rattle.text.proofs.Unique.{one-put}
@@ -39,10 +39,10 @@ image-Refusal-number self = one-answer _
 pub image-Refusal-line : (self : Refusal) → One (λ r. r ≡ refusalLine self)
 image-Refusal-line self = one-answer _
 
-pub image-Answer-number : (self : image.Answer) → One (λ r. r ≡ answerNumber self)
+pub image-Answer-number : (self : image.FileAnswer) → One (λ r. r ≡ answerNumber self)
 image-Answer-number self = one-answer _
 
-pub image-Answer-line : (self : image.Answer) → One (λ r. r ≡ answerLine self)
+pub image-Answer-line : (self : image.FileAnswer) → One (λ r. r ≡ answerLine self)
 image-Answer-line self = one-answer _
 
 pub image-Summary-none : One (λ r. r ≡ noSummary)
@@ -56,7 +56,7 @@ image-check text = one-answer _
 
 -- ---- guide
 
-pub guide-wanted : (counter flag : ℕ) → One (λ r. r ≡ wantedOf counter flag)
+pub guide-wanted : (counter flag : ℕ) → One (λ r. r ≡ kindWanted counter flag)
 guide-wanted counter flag = one-answer _
 
 pub guide-Fit-of : (kind : Kind) (expected configs kept counter identity flag revision : ℕ)
@@ -69,13 +69,13 @@ guide-Polled-of status = one-answer _
 pub guide-banks-right : (configs word : ℕ) → One (λ r. r ≡ banksRight configs word)
 guide-banks-right configs word = one-answer _
 
-pub guide-Verdict-number : (self : Verdict) → One (λ r. r ≡ numberOf self)
+pub guide-Verdict-number : (self : Verdict) → One (λ r. r ≡ verdictNumber self)
 guide-Verdict-number self = one-answer _
 
-pub guide-Verdict-line : (self : Verdict) → One (λ r. r ≡ lineOf self)
+pub guide-Verdict-line : (self : Verdict) → One (λ r. r ≡ verdictLine self)
 guide-Verdict-line self = one-answer _
 
-pub guide-Verdict-config : (self : Verdict) → One (λ r. r ≡ configOf self)
+pub guide-Verdict-config : (self : Verdict) → One (λ r. r ≡ verdictConfig self)
 guide-Verdict-config self = one-answer _
 
 pub guide-cleared : (word : ℕ) → One (λ r. r ≡ cleared word)

@@ -17,7 +17,7 @@ use Rattle.guide.specs.Plan.{fileLine}
 use Rattle.guide.specs.Guide.{gate, lineRequest, lines}
 use Rattle.guide.specs.Statements.{isBurnMark}
 use Rattle.session.specs.declared.Session.{Session}
-use Rattle.session.specs.declared.Step.the-variants.{LineOut, StatusAt}
+use Rattle.session.specs.declared.Awaited.the-variants.{LineOut, StatusAt}
 use Rattle.session.specs.Moves.{withStage, withPosition, withBurned, withSent}
 use Rattle.session.specs.Lines.{atLine, duePutOf, tookOf, dueOf, putLineOf, lineDoneOf}
 use Rattle.session.specs.Stages.{fitDoneOf}

@@ -12,7 +12,7 @@ use Rattle.image.specs.Says.{summaryOf}
 use Rattle.guide.specs.Plan.{Reply, Asked, Plan, requests}
 use Rattle.guide.specs.Guide.{lines, guide, writeLinesOf, guideFor}
 use Rattle.guide.specs.Matched.{Matched}
-use Rattle.guide.specs.Statements.{burnsIn, beforeBurn, InForm, Burns}
+use Rattle.guide.specs.Statements.{burnsIn, beforeBurn, AllInForm, Burns}
 use Rattle.guide.proofs.Every.{behind}
 use Rattle.guide.proofs.Burning.{behind-plain, burns-behind, before-behind, no-burns, lines-once, lines-never}
 use Rattle.guide.proofs.Gating.{gate-unless, Reached, reached}
@@ -43,16 +43,16 @@ module _ (file : Summary) (ls : List Line) (wanted : Bool) (limit restore : ℕ)
       before-is : beforeBurn n out ≡ x .before ++ beforeBurn n (from (x .last))
       before-is = rw (x .list) (before-behind n (x .before) _ (x .plain))
 
-      reached-once : InForm (beforeBurn n out) rs → burnsIn n out ≡ 1
+      reached-once : AllInForm (beforeBurn n out) rs → burnsIn n out ≡ 1
       reached-once f = burns-are ∙ lines-once n rest no-more 5 ls (x .last) some (omega arith) (x .form-here _ (rw before-is at f))
 
-      reached-never : (InForm (beforeBurn n out) rs → ⊥) → burnsIn n out ≡ 0
+      reached-never : (AllInForm (beforeBurn n out) rs → ⊥) → burnsIn n out ≡ 0
       reached-never f = burns-are ∙ lines-never n rest no-more 5 ls (x .last) some (omega arith) (λ g. f (rw before-is (x .form-there _ g)))
 
-    pub burns-once : Matched file wanted rs → InForm (beforeBurn n out) rs → burnsIn n out ≡ 1
+    pub burns-once : Matched file wanted rs → AllInForm (beforeBurn n out) rs → burnsIn n out ≡ 1
     burns-once m f = reached-once (reached file ls wanted limit restore rs m) f
 
-    pub burns-never : (Matched file wanted rs × InForm (beforeBurn n out) rs → ⊥) → burnsIn n out ≡ 0
+    pub burns-never : (Matched file wanted rs × AllInForm (beforeBurn n out) rs → ⊥) → burnsIn n out ≡ 0
     burns-never f =
         ⊎-elim (λ m. reached-never (reached file ls wanted limit restore rs m) (λ g. f (m, g))) (no-burns n out)
         (gate-unless file ls wanted limit restore rs)

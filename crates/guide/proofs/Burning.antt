@@ -10,12 +10,12 @@ use borrow.Author.Tests.{eq-eqb, ne-eqb}
 use Rattle.line.specs.declared.Line.{Line}
 use Rattle.image.specs.declared.Summary.{Summary}
 use Rattle.bus.specs.declared.Request.{Request}
-use Rattle.bus.specs.declared.Form.{Form}
-use Rattle.bus.specs.declared.Form.the-variants.{Unanswered, Misshapen, Miscoded, Good}
-use Rattle.bus.specs.Form.{formOf}
+use Rattle.bus.specs.declared.ReplyForm.{ReplyForm}
+use Rattle.bus.specs.declared.ReplyForm.the-variants.{Unanswered, Misshapen, Miscoded, Good}
+use Rattle.bus.specs.ReplyForm.{formOf}
 use Rattle.guide.specs.Plan.{Reply, Mark, other, fileLine, Asked, Plan, requests}
 use Rattle.guide.specs.Guide.{hear, put, lineRequest, lines}
-use Rattle.guide.specs.Statements.{isLine, linesIn, isBurnMark, burnsIn, beforeBurn, InForm, none, more}
+use Rattle.guide.specs.Statements.{isLine, linesIn, isBurnMark, burnsIn, beforeBurn, AllInForm, none, more}
 use Rattle.guide.proofs.Every.{Every, asks, ends, behind, behind-every}
 
 -- ---- plans and lists without write lines
@@ -60,17 +60,17 @@ module _ (n : ℕ) where
 
 -- ---- a request that is not the burn, before a plan
 
-no-form : {A : Type 0} {q : Asked} {qs : List Asked} → InForm (q ∷ qs) [] → A
+no-form : {A : Type 0} {q : Asked} {qs : List Asked} → AllInForm (q ∷ qs) [] → A
 no-form f = elim f [ ]
 
-form-on : {q : Asked} {qs : List Asked} {r : Reply} {rs : List Reply} → InForm (q ∷ qs) (r ∷ rs)
-    → (w : ℕ) × (formOf (q .request) (r .kind) (r .bytes) ≡ Good w) × InForm qs rs
+form-on : {q : Asked} {qs : List Asked} {r : Reply} {rs : List Reply} → AllInForm (q ∷ qs) (r ∷ rs)
+    → (w : ℕ) × (formOf (q .request) (r .kind) (r .bytes) ≡ Good w) × AllInForm qs rs
 form-on (more _ _ _ _ w e f) = (w, e, f)
 
 module _ (n : ℕ) (m : Mark) (q : Request) (p : Plan) (unlike : isBurnMark n m ≡ false) where
   once-on : (rs : List Reply)
-      → ((last : List Reply) → InForm (beforeBurn n (requests p last)) last → burnsIn n (requests p last) ≡ 1)
-      → InForm (beforeBurn n (requests (put m q (λ _. p)) rs)) rs → burnsIn n (requests (put m q (λ _. p)) rs) ≡ 1
+      → ((last : List Reply) → AllInForm (beforeBurn n (requests p last)) last → burnsIn n (requests p last) ≡ 1)
+      → AllInForm (beforeBurn n (requests (put m q (λ _. p)) rs)) rs → burnsIn n (requests (put m q (λ _. p)) rs) ≡ 1
   unfolding requests burnsIn beforeBurn hear
   once-on [] go f = no-form (rw unlike at f)
   once-on (r ∷ rs) go f =
@@ -78,13 +78,13 @@ module _ (n : ℕ) (m : Mark) (q : Request) (p : Plan) (unlike : isBurnMark n m 
       rw (unlike, g .1) (go rs (rw (g .1) at (g .2)))
 
   never-on : (rs : List Reply)
-      → ((last : List Reply) → (InForm (beforeBurn n (requests p last)) last → ⊥) → burnsIn n (requests p last) ≡ 0)
-      → (InForm (beforeBurn n (requests (put m q (λ _. p)) rs)) rs → ⊥) → burnsIn n (requests (put m q (λ _. p)) rs) ≡ 0
+      → ((last : List Reply) → (AllInForm (beforeBurn n (requests p last)) last → ⊥) → burnsIn n (requests p last) ≡ 0)
+      → (AllInForm (beforeBurn n (requests (put m q (λ _. p)) rs)) rs → ⊥) → burnsIn n (requests (put m q (λ _. p)) rs) ≡ 0
   unfolding requests burnsIn beforeBurn hear
   never-on [] go f = rw unlike
   never-on (r ∷ rs) go f = at-form (formOf q (r .kind) (r .bytes)) refl
     where
-      at-form : (h : Form) → formOf q (r .kind) (r .bytes) ≡ h → burnsIn n (requests (put m q (λ _. p)) (r ∷ rs)) ≡ 0
+      at-form : (h : ReplyForm) → formOf q (r .kind) (r .bytes) ≡ h → burnsIn n (requests (put m q (λ _. p)) (r ∷ rs)) ≡ 0
       at-form Unanswered e = rw (unlike, e)
       at-form Misshapen e = rw (unlike, e)
       at-form Miscoded e = rw (unlike, e)
@@ -95,7 +95,7 @@ module _ (n : ℕ) (m : Mark) (q : Request) (p : Plan) (unlike : isBurnMark n m 
 -- ---- step 3, from line i on, before a rest without write lines
 
 module _ (n : ℕ) (rest : Plan) (plain : (rs : List Reply) → burnsIn n (requests rest rs) ≡ 0) where
-  heard-none : (h : Form) (rs : List Reply) → burnsIn n (requests (hear h (λ _. rest)) rs) ≡ 0
+  heard-none : (h : ReplyForm) (rs : List Reply) → burnsIn n (requests (hear h (λ _. rest)) rs) ≡ 0
   unfolding hear requests burnsIn
   heard-none Unanswered rs = refl
   heard-none Misshapen rs = refl
@@ -105,7 +105,7 @@ module _ (n : ℕ) (rest : Plan) (plain : (rs : List Reply) → burnsIn n (reque
   abbrev out : ℕ → List Line → List Reply → List Asked
   out i ls rs = requests (lines i ls rest) rs
 
-  pub lines-once : (i : ℕ) (ls : List Line) (rs : List Reply) → 1 ≤ length ls → i + length ls ≡ n + 1 → InForm (beforeBurn n (out i ls rs)) rs
+  pub lines-once : (i : ℕ) (ls : List Line) (rs : List Reply) → 1 ≤ length ls → i + length ls ≡ n + 1 → AllInForm (beforeBurn n (out i ls rs)) rs
       → burnsIn n (out i ls rs) ≡ 1
   unfolding lines requests burnsIn beforeBurn isBurnMark hear
   lines-once i [] rs h e f = absurd (let y : ⊥ = omega arith in y)
@@ -115,7 +115,7 @@ module _ (n : ℕ) (rest : Plan) (plain : (rs : List Reply) → burnsIn n (reque
       once-on n (fileLine i) (lineRequest l) (lines (i + 1) (l2 ∷ ls) rest) (ne-eqb i n (omega arith)) rs
       (λ last g. lines-once (i + 1) (l2 ∷ ls) last (omega arith) (omega arith) g) f
 
-  pub lines-never : (i : ℕ) (ls : List Line) (rs : List Reply) → 1 ≤ length ls → i + length ls ≡ n + 1 → (InForm (beforeBurn n (out i ls rs)) rs → ⊥)
+  pub lines-never : (i : ℕ) (ls : List Line) (rs : List Reply) → 1 ≤ length ls → i + length ls ≡ n + 1 → (AllInForm (beforeBurn n (out i ls rs)) rs → ⊥)
       → burnsIn n (out i ls rs) ≡ 0
   unfolding lines requests burnsIn beforeBurn isBurnMark hear
   lines-never i [] rs h e f = absurd (let y : ⊥ = omega arith in y)

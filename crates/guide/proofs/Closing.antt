@@ -16,7 +16,7 @@ use Rattle.bus.specs.Bus.{framed, writeOf, pointTo, readData}
 use Rattle.guide.specs.declared.Verdict.{Verdict}
 use Rattle.guide.specs.declared.Verdict.the-variants.{Done, Program, Banks, Mismatch}
 use Rattle.guide.specs.declared.Polled.the-variants.{Busy}
-use Rattle.guide.specs.Numbers.{numberOf}
+use Rattle.guide.specs.Numbers.{verdictNumber}
 use Rattle.guide.specs.Judged.{banksRight}
 use Rattle.guide.specs.Plan.{Reply, Mark, other, fileLine, Plan, done, ended, verdict}
 use Rattle.guide.specs.Guide.{lineRequest, lines, polled, polls, step4, step5, crcIn, verify}
@@ -34,7 +34,7 @@ not-done-keeps m =
     record {
       waits = λ q next e. let z : _≡_ {A = ℕ} 0 1 = cc in omega arith;
       back = λ q next r rs f. f;
-      ends = λ v rs h e. let d : v ≡ Done = cc in omega (arith, ap numberOf d);
+      ends = λ v rs h e. let d : v ≡ Done = cc in omega (arith, ap verdictNumber d);
     }
 
 abbrev keeps : Keeps other NotDone
@@ -82,7 +82,7 @@ module _ {C : Type 0} where
   unfolding step4 writeOf framed
   step4-way limit rest rs go = bind-write keeps _ _ rs refl λ r c. polls-way limit rest r (go r c)
 
-  cond-way : (test : Bool) (v : Verdict) (rest : Plan) (rs : List Reply) → 1 ≤ numberOf v → (test ≡ true → NotDone rest rs ⊎ C)
+  cond-way : (test : Bool) (v : Verdict) (rest : Plan) (rs : List Reply) → 1 ≤ verdictNumber v → (test ≡ true → NotDone rest rs ⊎ C)
       → NotDone (cond test rest (done v)) rs ⊎ C
   cond-way true v rest rs h go = go refl
   cond-way false v rest rs h go = inl (keeps .ends v rs h)

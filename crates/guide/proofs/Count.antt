@@ -10,9 +10,9 @@ use Rattle.line.specs.declared.Line.{Line}
 use Rattle.image.specs.declared.Summary.{Summary}
 use Rattle.image.specs.Says.{summaryOf}
 use Rattle.bus.specs.declared.Request.{Request}
-use Rattle.bus.specs.declared.Form.{Form}
-use Rattle.bus.specs.declared.Form.the-variants.{Unanswered, Misshapen, Miscoded, Good}
-use Rattle.bus.specs.Form.{formOf}
+use Rattle.bus.specs.declared.ReplyForm.{ReplyForm}
+use Rattle.bus.specs.declared.ReplyForm.the-variants.{Unanswered, Misshapen, Miscoded, Good}
+use Rattle.bus.specs.ReplyForm.{formOf}
 use Rattle.guide.specs.declared.Verdict.{Verdict}
 use Rattle.guide.specs.declared.Fit.{Fit}
 use Rattle.guide.specs.declared.Fit.the-variants.{Matched, Fails}
@@ -34,7 +34,7 @@ done-most c v = record { bounds = λ rs. omega arith }
 -- a plan that is over asks nothing
 ruleset over = done-most
 
-hear-most : (c : ℕ) (h : Form) (next : ℕ → Plan) → ((w : ℕ) → AtMost c (next w)) → AtMost c (hear h next)
+hear-most : (c : ℕ) (h : ReplyForm) (next : ℕ → Plan) → ((w : ℕ) → AtMost c (next w)) → AtMost c (hear h next)
 unfolding hear
 hear-most c Unanswered next f = done-most c _
 hear-most c Misshapen next f = done-most c _

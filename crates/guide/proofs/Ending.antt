@@ -13,7 +13,7 @@ use Rattle.bus.specs.Bus.{pointTo, readData}
 use Rattle.guide.specs.declared.Verdict.the-variants.{Done}
 use Rattle.guide.specs.Plan.{Reply, other, ended, done, verdict}
 use Rattle.guide.specs.Guide.{gate, lines, guide, writeLinesOf, guideFor}
-use Rattle.guide.specs.Matched.{Exchange, wrote, got, Answered, opening}
+use Rattle.guide.specs.Matched.{Exchange, wrote, got, Heard, opening}
 use Rattle.guide.specs.Statements.{heard3, heard4, heard6, DoneWhen, DoneExactly}
 use Rattle.guide.proofs.Judging.{judged-exactly}
 use Rattle.guide.proofs.Banks.{are-right, right-are}
@@ -24,7 +24,7 @@ use Rattle.guide.proofs.Leading.{lines-leads, step4-leads, step5-leads,
 use Rattle.guide.proofs.Every.{behind}
 use Rattle.guide.proofs.FileFacts.{few-configs}
 
-cons : {q : Request} {w : ℕ} {xs : List Exchange} {rs rest : List Reply} → Came q w rs rest → Answered xs rest → Answered (got q w ∷ xs) rs
+cons : {q : Request} {w : ℕ} {xs : List Exchange} {rs rest : List Reply} → Came q w rs rest → Heard xs rest → Heard (got q w ∷ xs) rs
 cons c a = join (then c here) a
 
 module _ (text : List ℕ) (wanted : Bool) (limit restore : ℕ) (rs : List Reply) where
@@ -57,7 +57,7 @@ module _ (text : List ℕ) (wanted : Bool) (limit restore : ℕ) (rs : List Repl
       })
 
   pub leading : (d : DoneWhen text wanted limit restore rs) → Leads (guideFor text wanted limit restore)
-      (opening wanted (d .matched .first) (d .matched .counter) (d .matched .identity) (d .matched .flag) (d .matched .revision)
+      (opening wanted (d .matched .captured) (d .matched .counter) (d .matched .identity) (d .matched .flag) (d .matched .revision)
       ++ (heard3 ls
       ++ (wrote (pointTo 0x7E 0x00) ∷ (heard4 (d .busy)
       ++ (got readData (d .last) ∷ wrote (pointTo 0x7F 0x00) ∷ got readData (d .banks) ∷ heard6 file restore (file .configs) 0)))))
@@ -70,7 +70,7 @@ module _ (text : List ℕ) (wanted : Bool) (limit restore : ℕ) (rs : List Repl
       let k2 = step5-leads k1 (file .configs) (d .banks) right in
       let k3 = step4-leads k2 limit (d .busy) (d .last) (d .polls) (d .clear) (d .passed) in
       let k4 = lines-leads k3 5 ls in
-      let o = opens file (lines 5 ls (behind file limit restore)) wanted (m .first) (m .counter) (m .identity) (m .flag) (m .revision) in
+      let o = opens file (lines 5 ls (behind file limit restore)) wanted (m .captured) (m .counter) (m .identity) (m .flag) (m .revision) in
       both (rw (judged-exactly file (m .counter) (m .identity) (m .flag) (m .revision) .passes (m .fits)) at (o .leads)) k4
 
   pub done-exactly : DoneExactly text wanted limit restore rs

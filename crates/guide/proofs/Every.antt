@@ -11,10 +11,10 @@ use Rattle.line.specs.Digits.{digitVal, valuesOf}
 use Rattle.line.specs.Reading.{lineOf}
 use Rattle.image.specs.declared.Summary.{Summary}
 use Rattle.bus.specs.declared.Request.{Request}
-use Rattle.bus.specs.declared.Form.{Form}
-use Rattle.bus.specs.declared.Form.the-variants.{Unanswered, Misshapen, Miscoded, Good}
+use Rattle.bus.specs.declared.ReplyForm.{ReplyForm}
+use Rattle.bus.specs.declared.ReplyForm.the-variants.{Unanswered, Misshapen, Miscoded, Good}
 use Rattle.bus.specs.Bus.{writeOf, wordBytes, pointTo, readData, readBlock}
-use Rattle.bus.specs.Form.{formOf}
+use Rattle.bus.specs.ReplyForm.{formOf}
 use Rattle.guide.specs.declared.Verdict.{Verdict}
 use Rattle.guide.specs.declared.Fit.{Fit}
 use Rattle.guide.specs.declared.Fit.the-variants.{Matched, Fails}
@@ -54,7 +54,7 @@ pub data Other (file : Summary) (restore : ℕ) : Request → Type 0 where
 ruleset over = ends
 
 module _ {P : Asked → Type 0} where
-  hear-every : (h : Form) (next : ℕ → Plan) → ((w : ℕ) → Every P (next w)) → Every P (hear h next)
+  hear-every : (h : ReplyForm) (next : ℕ → Plan) → ((w : ℕ) → Every P (next w)) → Every P (hear h next)
   unfolding hear
   hear-every Unanswered next f = ends
   hear-every Misshapen next f = ends

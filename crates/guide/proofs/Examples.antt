@@ -7,7 +7,7 @@ use Rattle.line.specs.Digits.{digitVal, allDigits, pairVal, valuesOf}
 use Rattle.line.specs.Reading.{lineOf, badPairs, someTo32, headOk, bodyOk, formOk, lengthRight, crcRight, formRight, readValues, readDigits, readLine}
 use Rattle.image.specs.Says.{word, crcOf}
 use Rattle.bus.specs.Bus.{eight, readOf}
-use Rattle.bus.specs.Form.{wordAt, sealedOf, readForm, doneForm, formOf}
+use Rattle.bus.specs.ReplyForm.{wordAt, sealedOf, readForm, doneForm, formOf}
 use Rattle.text.specs.Text.{bytesOf}
 use Rattle.guide.specs.Examples.{Holds, twelve, Hold}
 

@@ -10,12 +10,12 @@ use Rattle.guide.specs.declared.Verdict.{Verdict}
 use Rattle.guide.specs.declared.Verdict.the-variants.{Counter, Identity, Flag, Old, OtherKind, Places}
 use Rattle.guide.specs.declared.Fit.{Fit}
 use Rattle.guide.specs.declared.Fit.the-variants.{Matched, Fails}
-use Rattle.guide.specs.Numbers.{numberOf}
-use Rattle.guide.specs.Judged.{sameKind, wantedOf, fitKind, fitOf}
+use Rattle.guide.specs.Numbers.{verdictNumber}
+use Rattle.guide.specs.Judged.{sameKind, kindWanted, fitKind, fitOf}
 
 pub data Fair : Fit → Type 0 where
   passes : Fair Matched
-  fails : (v : Verdict) → 1 ≤ numberOf v → Fair (Fails v)
+  fails : (v : Verdict) → 1 ≤ verdictNumber v → Fair (Fails v)
 
 cond-fair : (b : Bool) {x y : Fit} → Fair x → Fair y → Fair (cond b x y)
 cond-fair true f g = f
@@ -34,4 +34,4 @@ pub fit-fair : (kind : Kind) (fileIdentity k kept counter identity flag revision
 unfolding fitOf
 fit-fair kind fileIdentity k kept counter identity flag revision =
     cond-fair (ltb 28 counter) (fails Counter (omega arith))
-    (cond-fair (eqb identity fileIdentity) (kind-fair kind k kept counter revision (wantedOf counter flag)) (fails Identity (omega arith)))
+    (cond-fair (eqb identity fileIdentity) (kind-fair kind k kept counter revision (kindWanted counter flag)) (fails Identity (omega arith)))

@@ -10,7 +10,7 @@ use Rattle.counts.specs.declared.Kind.{Kind}
 use Rattle.counts.specs.Counts.{stepOf, configsOf}
 use Rattle.line.specs.Lines.{linesOf}
 use Rattle.line.specs.Digits.{digitVal, valuesOf}
-use Rattle.line.specs.Form.{LineForm}
+use Rattle.line.specs.LineForm.{LineForm}
 use Rattle.line.proofs.Basics.{split}
 use Rattle.image.specs.Says.{fileConfigs, summaryOf}
 use Rattle.image.specs.Meets.{BurnBytes}

@@ -13,7 +13,7 @@ use Rattle.guide.specs.declared.Fit.{Fit}
 use Rattle.guide.specs.Plan.{Reply, other, Asked, Plan, requests}
 use Rattle.guide.specs.Guide.{gate, lines, guide, writeLinesOf, guideFor}
 use Rattle.guide.specs.Matched.{Matched}
-use Rattle.guide.specs.Statements.{isLine, linesIn, lineAsked, InForm, openingCount, Gate}
+use Rattle.guide.specs.Statements.{isLine, linesIn, lineAsked, AllInForm, openingCount, Gate}
 use Rattle.guide.proofs.Judging.{judged-exactly}
 use Rattle.guide.proofs.Through.{through, asksOf, leads-requests, form-behind, form-before}
 use Rattle.guide.proofs.Ways.{Keeps}
@@ -46,13 +46,13 @@ module _ (file : Summary) (ls : List Line) (wanted : Bool) (limit restore : ℕ)
     pub list : out ≡ before ++ requests gated last
     pub size : length before ≡ openingCount wanted
     pub plain : linesIn before ≡ []
-    pub form-here : (qs : List Asked) → InForm (before ++ qs) rs → InForm qs last
-    pub form-there : (qs : List Asked) → InForm qs last → InForm (before ++ qs) rs
+    pub form-here : (qs : List Asked) → AllInForm (before ++ qs) rs → AllInForm qs last
+    pub form-there : (qs : List Asked) → AllInForm qs last → AllInForm (before ++ qs) rs
 
   pub reached : Matched file wanted rs → Reached
   unfolding guide gate
   reached m =
-      let o = opens file gated wanted (m .first) (m .counter) (m .identity) (m .flag) (m .revision) in
+      let o = opens file gated wanted (m .captured) (m .counter) (m .identity) (m .flag) (m .revision) in
       let s = through _ rs (m .came) in
       record {
         before = asksOf (o .leads);

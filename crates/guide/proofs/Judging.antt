@@ -15,7 +15,7 @@ use Rattle.image.specs.declared.Summary.{Summary}
 use Rattle.guide.specs.declared.Verdict.{Verdict}
 use Rattle.guide.specs.declared.Verdict.the-variants.{Counter, Identity, Flag, Old, OtherKind, Places}
 use Rattle.guide.specs.declared.Fit.the-variants.{Matched, Fails}
-use Rattle.guide.specs.Judged.{wantedOf, sameKind, fitKind, fitOf}
+use Rattle.guide.specs.Judged.{kindWanted, sameKind, fitKind, fitOf}
 use Rattle.guide.specs.Matched.{Fits}
 use Rattle.guide.specs.Statements.{JudgedExactly}
 
@@ -24,8 +24,8 @@ abbrev Wants : Kind → ℕ → ℕ → Type 0
 Wants kind counter flag =
     ((kind ≡ Legacy) × (flag ≡ 0) × (counter < 28)) ⊎ ((kind ≡ Production) × ((flag ≡ 0xFFFE0001) ⊎ (counter ≡ 28)))
 
-wants-is : {kind : Kind} (counter flag : ℕ) → Wants kind counter flag → wantedOf counter flag ≡ Is kind
-unfolding wantedOf
+wants-is : {kind : Kind} (counter flag : ℕ) → Wants kind counter flag → kindWanted counter flag ≡ Is kind
+unfolding kindWanted
 wants-is counter flag (inl (e, f, h)) = simp (e, f, lt-ltb counter 28 h)
 wants-is counter flag (inr (e, inl f)) = rw (e, f)
 wants-is counter flag (inr (e, inr f)) =
@@ -35,8 +35,8 @@ wants-is counter flag (inr (e, inr f)) =
 none-wanted : {A : Type 0} (kind : Kind) → Unknown ≡ Is kind → A
 none-wanted kind e = let z : _≡_ {A = ℕ} 0 1 = cc in absurd (let y : ⊥ = omega arith in y)
 
-is-wants : (kind : Kind) (counter flag : ℕ) → wantedOf counter flag ≡ Is kind → Wants kind counter flag
-unfolding wantedOf
+is-wants : (kind : Kind) (counter flag : ℕ) → kindWanted counter flag ≡ Is kind → Wants kind counter flag
+unfolding kindWanted
 is-wants kind counter flag e =
     split (eqb flag 0)
     (λ g. let other : eqb flag 0xFFFE0001 ≡ false = ne-eqb flag 0xFFFE0001 (λ x. omega (arith, eqb-true flag 0 g)) in
@@ -96,7 +96,7 @@ module _ (file : Summary) (counter identity flag revision : ℕ) where
   matching e =
       split (ltb 28 counter) (λ a. fails Counter (simp a at e))
       (λ a. split (eqb identity (file .identity))
-      (λ b. let k = kind-known (wantedOf counter flag) (simp (a, b) at e) in
+      (λ b. let k = kind-known (kindWanted counter flag) (simp (a, b) at e) in
       record {
         counted = ltb-false 28 counter a;
         same = eqb-true identity (file .identity) b;

@@ -12,7 +12,7 @@ use borrow.Author.Tests.{eqb-true}
 use Rattle.pec.specs.Pec.{topBit, shift, shifts, remainder, step, pecFrom, pec}
 use Rattle.line.specs.Reading.{lineOf}
 use Rattle.line.proofs.Basics.{and-true}
-use Rattle.line.specs.Form.{Row, identity, revision, third, fourth, two, four, LineForm}
+use Rattle.line.specs.LineForm.{Row, identity, revision, third, fourth, two, four, LineForm}
 use Rattle.image.specs.Meets.{BurnBytes}
 use Rattle.bus.specs.Bus.{eight, framed}
 use Rattle.guide.specs.Guide.{lineData, lineRequest}

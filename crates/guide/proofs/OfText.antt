@@ -7,7 +7,7 @@ use native.Mathlib.Omega.{arith}
 use lib.ListN.{length}
 use Rattle.line.specs.Lines.{linesOf}
 use Rattle.line.proofs.Spelling.{spells-values}
-use Rattle.image.specs.declared.Answer.the-variants.{Accepted}
+use Rattle.image.specs.declared.FileAnswer.the-variants.{Accepted}
 use Rattle.image.specs.Check.{answerNumber, checkOf}
 use Rattle.image.specs.Meets.{numbered, Meets}
 use Rattle.image.proofs.Standing.{spelled-length, spells-at}

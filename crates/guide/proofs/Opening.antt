@@ -27,12 +27,12 @@ abbrev pub begun : Summary → Bool → Plan → Plan
 begun file wanted rest = cond wanted (step1 (step2 file rest)) (step2 file rest)
 
 -- replies that led through the gate matched
-matched-of : (file : Summary) (wanted : Bool) (first counter identity flag revision : ℕ) {rs last : List Reply}
-    → Through (opening wanted first counter identity flag revision) rs last → fitFor file counter identity flag revision ≡ fit.Matched
+matched-of : (file : Summary) (wanted : Bool) (captured counter identity flag revision : ℕ) {rs last : List Reply}
+    → Through (opening wanted captured counter identity flag revision) rs last → fitFor file counter identity flag revision ≡ fit.Matched
     → Matched file wanted rs
-matched-of file wanted first counter identity flag revision t e =
+matched-of file wanted captured counter identity flag revision t e =
     record {
-      first = first;
+      captured = captured;
       counter = counter;
       identity = identity;
       flag = flag;
@@ -68,7 +68,7 @@ module _ {C : Type 0} {S : Plan → List Reply → Type 0} (k : Keeps other S) w
 
   pub opening-way : (file : Summary) (wanted : Bool) (rest : Plan) (rs : List Reply)
       → ((m : Matched file wanted rs) (last : List Reply)
-      → Through (opening wanted (m .first) (m .counter) (m .identity) (m .flag) (m .revision)) rs last → S rest last ⊎ C)
+      → Through (opening wanted (m .captured) (m .counter) (m .identity) (m .flag) (m .revision)) rs last → S rest last ⊎ C)
       → S (begun file wanted rest) rs ⊎ C
   unfolding opening matched-of
   opening-way file true rest rs go =
@@ -91,18 +91,18 @@ module _ (file : Summary) (rest : Plan) where
   step2-leads counter identity flag revision = on _ (on _ (on _ (on _ (on _ (on _ arrived)))))
 
   -- the path of both, with what it asks
-  pub record Opens (wanted : Bool) (first counter identity flag revision : ℕ) : Type 0 where
-    pub leads : Leads (begun file wanted rest) (opening wanted first counter identity flag revision)
+  pub record Opens (wanted : Bool) (captured counter identity flag revision : ℕ) : Type 0 where
+    pub leads : Leads (begun file wanted rest) (opening wanted captured counter identity flag revision)
         (gate (fitFor file counter identity flag revision) rest)
     pub size : length (asksOf leads) ≡ openingCount wanted
     pub plain : linesIn (asksOf leads) ≡ []
 
-  pub opens : (wanted : Bool) (first counter identity flag revision : ℕ) → Opens wanted first counter identity flag revision
+  pub opens : (wanted : Bool) (captured counter identity flag revision : ℕ) → Opens wanted captured counter identity flag revision
   unfolding opening openingCount asksOf step1 step2 step1-leads step2-leads linesIn isLine
-  opens true first counter identity flag revision =
+  opens true captured counter identity flag revision =
       record {
         leads = on _ (on _ (on _ (on _ (step2-leads counter identity flag revision))));
         size = refl;
         plain = refl;
       }
-  opens false first counter identity flag revision = record { leads = step2-leads counter identity flag revision; size = refl; plain = refl }
+  opens false captured counter identity flag revision = record { leads = step2-leads counter identity flag revision; size = refl; plain = refl }

@@ -4,13 +4,13 @@ use mathlib.Core.Path.{_≡_, refl, ap, _∙_}
 use mathlib.Core.List.{List, [], _∷_, _++_, append-nil}
 use Prim.Native.Nat.{ℕ}
 use Rattle.bus.specs.declared.Request.{Request}
-use Rattle.bus.specs.declared.Form.{Form}
-use Rattle.bus.specs.declared.Form.the-variants.{Good}
-use Rattle.bus.specs.Form.{formOf}
+use Rattle.bus.specs.declared.ReplyForm.{ReplyForm}
+use Rattle.bus.specs.declared.ReplyForm.the-variants.{Good}
+use Rattle.bus.specs.ReplyForm.{formOf}
 use Rattle.guide.specs.Plan.{Reply, Mark, Asked, Plan, requests, verdict}
 use Rattle.guide.specs.Guide.{hear, put}
-use Rattle.guide.specs.Matched.{Exchange, got, Answered, none, more}
-use Rattle.guide.specs.Statements.{InForm}
+use Rattle.guide.specs.Matched.{Exchange, got, Heard, none, more}
+use Rattle.guide.specs.Statements.{AllInForm}
 use Rattle.guide.specs.Statements as said
 
 -- ---- replies
@@ -28,20 +28,20 @@ pub through-both : {xs ys : List Exchange} {rs mid last : List Reply} → Throug
 through-both here u = u
 through-both (then c t) u = then c (through-both t u)
 
-pub join : {xs ys : List Exchange} {rs last : List Reply} → Through xs rs last → Answered ys last → Answered (xs ++ ys) rs
+pub join : {xs ys : List Exchange} {rs last : List Reply} → Through xs rs last → Heard ys last → Heard (xs ++ ys) rs
 join here a = a
 join (then (came r rest e) t) a = more _ _ r rest e (join t a)
 
-pub split-answered : (xs : List Exchange) {ys : List Exchange} {rs : List Reply} → Answered (xs ++ ys) rs
-    → (last : List Reply) × Through xs rs last × Answered ys last
+pub split-answered : (xs : List Exchange) {ys : List Exchange} {rs : List Reply} → Heard (xs ++ ys) rs
+    → (last : List Reply) × Through xs rs last × Heard ys last
 split-answered [] a = (_, here, a)
 split-answered (x ∷ xs) (more _ _ r rs e a) = let b = split-answered xs a in (b .0, then (came r rs e) (b .1), b .2)
 
 -- with nothing behind them
-pub answered : {xs : List Exchange} {rs last : List Reply} → Through xs rs last → Answered xs rs
+pub answered : {xs : List Exchange} {rs last : List Reply} → Through xs rs last → Heard xs rs
 answered t = rw append-nil at (join t (none _))
 
-pub through : (xs : List Exchange) (rs : List Reply) → Answered xs rs → (last : List Reply) × Through xs rs last
+pub through : (xs : List Exchange) (rs : List Reply) → Heard xs rs → (last : List Reply) × Through xs rs last
 through xs rs a = let b = split-answered xs {ys = []} {rs = rs} (rw append-nil a) in (b .0, b .1)
 
 -- ---- paths
@@ -67,7 +67,7 @@ module _ {p′ : Plan} {last : List Reply} where
   pub leads-verdict : {p : Plan} {xs : List Exchange} {rs : List Reply} → Leads p xs p′ → Through xs rs last → verdict p rs ≡ verdict p′ last
   unfolding verdict hear
   leads-verdict arrived here = refl
-  leads-verdict (on next l) (then (came r rest e) t) = ap (λ (f : Form). verdict (hear f next) rest) e ∙ leads-verdict l t
+  leads-verdict (on next l) (then (came r rest e) t) = ap (λ (f : ReplyForm). verdict (hear f next) rest) e ∙ leads-verdict l t
 
   pub leads-requests : {p : Plan} {xs : List Exchange} {rs : List Reply} (l : Leads p xs p′) → Through xs rs last
       → requests p rs ≡ asksOf l ++ requests p′ last
@@ -76,13 +76,13 @@ module _ {p′ : Plan} {last : List Reply} where
   leads-requests (on {m} {q} next l) (then (came r rest e) t) = rw e (ap (λ (qs : List Asked). asked m q ∷ qs) (leads-requests l t))
 
   pub form-behind : {p : Plan} {xs : List Exchange} {rs : List Reply} {qs : List Asked} (l : Leads p xs p′) → Through xs rs last
-      → InForm (asksOf l ++ qs) rs → InForm qs last
+      → AllInForm (asksOf l ++ qs) rs → AllInForm qs last
   unfolding asksOf
   form-behind arrived here f = f
   form-behind (on next l) (then (came r rest e) t) (said.more _ _ _ _ _ _ f) = form-behind l t f
 
-  pub form-before : {p : Plan} {xs : List Exchange} {rs : List Reply} {qs : List Asked} (l : Leads p xs p′) → Through xs rs last → InForm qs last
-      → InForm (asksOf l ++ qs) rs
+  pub form-before : {p : Plan} {xs : List Exchange} {rs : List Reply} {qs : List Asked} (l : Leads p xs p′) → Through xs rs last → AllInForm qs last
+      → AllInForm (asksOf l ++ qs) rs
   unfolding asksOf
   form-before arrived here f = f
   form-before (on next l) (then (came r rest e) t) f = said.more _ _ r rest _ e (form-before l t f)

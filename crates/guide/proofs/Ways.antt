@@ -10,12 +10,12 @@ use lib.Dec.{eqb, ltb}
 use lib.ListN.{length}
 use Rattle.line.proofs.Basics.{split}
 use Rattle.bus.specs.declared.Request.{Request}
-use Rattle.bus.specs.declared.Form.{Form}
-use Rattle.bus.specs.declared.Form.the-variants.{Unanswered, Misshapen, Miscoded, Good}
-use Rattle.bus.specs.Form.{doneForm, formOf}
+use Rattle.bus.specs.declared.ReplyForm.{ReplyForm}
+use Rattle.bus.specs.declared.ReplyForm.the-variants.{Unanswered, Misshapen, Miscoded, Good}
+use Rattle.bus.specs.ReplyForm.{doneForm, formOf}
 use Rattle.guide.specs.declared.Verdict.{Verdict}
 use Rattle.guide.specs.declared.Verdict.the-variants.{Nack, Shape, Pec}
-use Rattle.guide.specs.Numbers.{numberOf}
+use Rattle.guide.specs.Numbers.{verdictNumber}
 use Rattle.guide.specs.Plan.{Reply, Mark, Plan, ask, done}
 use Rattle.guide.specs.Guide.{hear, put}
 use Rattle.guide.proofs.Through.{Came, came, asked}
@@ -24,7 +24,7 @@ use Rattle.guide.proofs.Through.{Came, came, asked}
 pub record Keeps (m : Mark) (S : Plan → List Reply → Type 0) : Type 0 where
   pub waits : (q : Request) (next : Reply → Plan) → S (ask (asked m q) next) []
   pub back : (q : Request) (next : Reply → Plan) (r : Reply) (rs : List Reply) → S (next r) rs → S (ask (asked m q) next) (r ∷ rs)
-  pub ends : (v : Verdict) (rs : List Reply) → 1 ≤ numberOf v → S (done v) rs
+  pub ends : (v : Verdict) (rs : List Reply) → 1 ≤ verdictNumber v → S (done v) rs
 
 -- a write is answered with no word
 wrote-none : (q : Request) (w kind : ℕ) (bs : List ℕ) → q .reads ≡ false → formOf q kind bs ≡ Good w → w ≡ 0
@@ -44,10 +44,10 @@ module _ {C : Type 0} {m : Mark} {S : Plan → List Reply → Type 0} (k : Keeps
   bind q next [] f = inl (k .waits q _)
   bind q next (r ∷ rs) f = go (formOf q (r .kind) (r .bytes)) refl
     where
-      stays : (v : Verdict) → 1 ≤ numberOf v → hear (formOf q (r .kind) (r .bytes)) next ≡ done v → S (put m q next) (r ∷ rs) ⊎ C
+      stays : (v : Verdict) → 1 ≤ verdictNumber v → hear (formOf q (r .kind) (r .bytes)) next ≡ done v → S (put m q next) (r ∷ rs) ⊎ C
       stays v h e = inl (k .back q _ r rs (rw e (k .ends v rs h)))
 
-      go : (h : Form) → formOf q (r .kind) (r .bytes) ≡ h → S (put m q next) (r ∷ rs) ⊎ C
+      go : (h : ReplyForm) → formOf q (r .kind) (r .bytes) ≡ h → S (put m q next) (r ∷ rs) ⊎ C
       go Unanswered e = stays Nack (omega arith) (rw e)
       go Misshapen e = stays Shape (omega arith) (rw e)
       go Miscoded e = stays Pec (omega arith) (rw e)

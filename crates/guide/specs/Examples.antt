@@ -12,9 +12,9 @@ use Rattle.line.specs.declared.LineReading.the-variants as reading
 use Rattle.line.specs.Reading.{faultNumber, readLine}
 use Rattle.image.specs.Says.{crcOf}
 use Rattle.bus.specs.declared.Request.{Request}
-use Rattle.bus.specs.declared.Form.the-variants as form
+use Rattle.bus.specs.declared.ReplyForm.the-variants as form
 use Rattle.bus.specs.Bus.{readData, readBlock}
-use Rattle.bus.specs.Form.{formOf}
+use Rattle.bus.specs.ReplyForm.{formOf}
 
 pub data Example : Type 0 where
   -- as line n, the text is good and says this

@@ -13,10 +13,10 @@ use Rattle.line.specs.Reading.{lineOf}
 use Rattle.image.specs.declared.Summary.{Summary}
 use Rattle.image.specs.Says.{summaryOf}
 use Rattle.bus.specs.declared.Request.{Request}
-use Rattle.bus.specs.declared.Form.{Form}
-use Rattle.bus.specs.declared.Form.the-variants.{Unanswered, Misshapen, Miscoded, Good}
+use Rattle.bus.specs.declared.ReplyForm.{ReplyForm}
+use Rattle.bus.specs.declared.ReplyForm.the-variants.{Unanswered, Misshapen, Miscoded, Good}
 use Rattle.bus.specs.Bus.{framed, writeOf, wordBytes, pointTo, readData, readBlock}
-use Rattle.bus.specs.Form.{formOf}
+use Rattle.bus.specs.ReplyForm.{formOf}
 use Rattle.guide.specs.declared.Verdict.the-variants.{Done, Nack, Shape, Pec, Program, Banks, Mismatch}
 use Rattle.guide.specs.declared.Fit.{Fit}
 use Rattle.guide.specs.declared.Fit.the-variants.{Matched, Fails}
@@ -26,7 +26,7 @@ use Rattle.guide.specs.Plan.{Mark, other, fileLine, Plan, ask, done}
 use Rattle.guide.specs.Judged.{cleared, fitOf, polledOf, banksRight}
 
 -- 20 to 22 are tried at each reply, in order; one in form goes on with the word read
-unfoldable pub hear : Form → (ℕ → Plan) → Plan
+unfoldable pub hear : ReplyForm → (ℕ → Plan) → Plan
 hear Unanswered next = done Nack
 hear Misshapen next = done Shape
 hear Miscoded next = done Pec

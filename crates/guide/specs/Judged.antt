@@ -21,8 +21,8 @@ cleared w = w - w / 32 % 2 * 32
 -- ---- step 2: 23 to 28
 
 -- the kind wanted: flag 0 and counter under 28 means legacy; flag FFFE0001 or counter 28 means production
-unfoldable pub wantedOf : ℕ → ℕ → KindFound
-wantedOf counter flag =
+unfoldable pub kindWanted : ℕ → ℕ → KindFound
+kindWanted counter flag =
     cond (cond (eqb flag 0) (ltb counter 28) false) (Is Legacy)
     (cond (cond (eqb flag 0xFFFE0001) true (eqb counter 28)) (Is Production) Unknown)
 
@@ -45,7 +45,7 @@ module _ (kind : Kind) (k kept counter revision : ℕ) where
 unfoldable pub fitOf : Kind → ℕ → ℕ → ℕ → ℕ → ℕ → ℕ → ℕ → Fit
 fitOf kind fileIdentity k kept counter identity flag revision =
     cond (ltb 28 counter) (Fails Counter)
-    (cond (eqb identity fileIdentity) (fitKind kind k kept counter revision (wantedOf counter flag)) (Fails Identity))
+    (cond (eqb identity fileIdentity) (fitKind kind k kept counter revision (kindWanted counter flag)) (Fails Identity))
 
 -- ---- step 4: bit 0, and then bits 5..0 are to be 000001
 unfoldable pub polledOf : ℕ → Polled

@@ -8,9 +8,9 @@ use Prim.Native.Nat.{ℕ, _/_, _≤_, _<_}
 use Rattle.counts.specs.declared.Kind.the-variants.{Legacy, Production}
 use Rattle.image.specs.declared.Summary.{Summary}
 use Rattle.bus.specs.declared.Request.{Request}
-use Rattle.bus.specs.declared.Form.the-variants.{Good}
+use Rattle.bus.specs.declared.ReplyForm.the-variants.{Good}
 use Rattle.bus.specs.Bus.{writeOf, wordBytes, pointTo, readData, readBlock}
-use Rattle.bus.specs.Form.{formOf}
+use Rattle.bus.specs.ReplyForm.{formOf}
 use Rattle.guide.specs.Plan.{Reply}
 use Rattle.guide.specs.Judged.{cleared}
 
@@ -28,10 +28,10 @@ abbrev pub got : Request → ℕ → Exchange
 got q w = record { request = q; word = w }
 
 -- the replies begin with one in form to each of these requests, with its word
-pub data Answered : List Exchange → List Reply → Type 0 where
-  none : (rs : List Reply) → Answered [] rs
-  more : (x : Exchange) (xs : List Exchange) (r : Reply) (rs : List Reply) → formOf (x .request) (r .kind) (r .bytes) ≡ Good (x .word) → Answered xs rs
-      → Answered (x ∷ xs) (r ∷ rs)
+pub data Heard : List Exchange → List Reply → Type 0 where
+  none : (rs : List Reply) → Heard [] rs
+  more : (x : Exchange) (xs : List Exchange) (r : Reply) (rs : List Reply) → formOf (x .request) (r .kind) (r .bytes) ≡ Good (x .word) → Heard xs rs
+      → Heard (x ∷ xs) (r ∷ rs)
 
 -- ---- steps 1 and 2
 
@@ -61,10 +61,10 @@ pub record Fits (file : Summary) (counter identity flag revision : ℕ) : Type 0
 
 pub record Matched (file : Summary) (wanted : Bool) (rs : List Reply) : Type 0 where
   -- what step 1 read, where it is wanted
-  pub first : ℕ
+  pub captured : ℕ
   pub counter : ℕ
   pub identity : ℕ
   pub flag : ℕ
   pub revision : ℕ
-  pub came : Answered (opening wanted first counter identity flag revision) rs
+  pub came : Heard (opening wanted captured counter identity flag revision) rs
   pub fits : Fits file counter identity flag revision

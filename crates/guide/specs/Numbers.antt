@@ -7,55 +7,55 @@ use Rattle.image.specs.Check.{refusalNumber, refusalLine}
 use Rattle.guide.specs.declared.Verdict.{Verdict}
 use Rattle.guide.specs.declared.Verdict.the-variants.{Done, Setting, File, Nack, Shape, Pec, Counter, Identity, Flag, Old, OtherKind, Places, Program, Banks, Mismatch}
 
-abbrev pub numberOf : Verdict → ℕ
-numberOf Done = 0
-numberOf Setting = 14
-numberOf (File r) = refusalNumber r
-numberOf Nack = 20
-numberOf Shape = 21
-numberOf Pec = 22
-numberOf Counter = 23
-numberOf Identity = 24
-numberOf Flag = 25
-numberOf Old = 26
-numberOf OtherKind = 27
-numberOf Places = 28
-numberOf Program = 29
-numberOf Banks = 30
-numberOf (Mismatch N) = 31
+abbrev pub verdictNumber : Verdict → ℕ
+verdictNumber Done = 0
+verdictNumber Setting = 14
+verdictNumber (File r) = refusalNumber r
+verdictNumber Nack = 20
+verdictNumber Shape = 21
+verdictNumber Pec = 22
+verdictNumber Counter = 23
+verdictNumber Identity = 24
+verdictNumber Flag = 25
+verdictNumber Old = 26
+verdictNumber OtherKind = 27
+verdictNumber Places = 28
+verdictNumber Program = 29
+verdictNumber Banks = 30
+verdictNumber (Mismatch N) = 31
 
 -- a refused file's line
-abbrev pub lineOf : Verdict → LineNumber
-lineOf Done = lineNumber 0
-lineOf Setting = lineNumber 0
-lineOf (File r) = refusalLine r
-lineOf Nack = lineNumber 0
-lineOf Shape = lineNumber 0
-lineOf Pec = lineNumber 0
-lineOf Counter = lineNumber 0
-lineOf Identity = lineNumber 0
-lineOf Flag = lineNumber 0
-lineOf Old = lineNumber 0
-lineOf OtherKind = lineNumber 0
-lineOf Places = lineNumber 0
-lineOf Program = lineNumber 0
-lineOf Banks = lineNumber 0
-lineOf (Mismatch N) = lineNumber 0
+abbrev pub verdictLine : Verdict → LineNumber
+verdictLine Done = lineNumber 0
+verdictLine Setting = lineNumber 0
+verdictLine (File r) = refusalLine r
+verdictLine Nack = lineNumber 0
+verdictLine Shape = lineNumber 0
+verdictLine Pec = lineNumber 0
+verdictLine Counter = lineNumber 0
+verdictLine Identity = lineNumber 0
+verdictLine Flag = lineNumber 0
+verdictLine Old = lineNumber 0
+verdictLine OtherKind = lineNumber 0
+verdictLine Places = lineNumber 0
+verdictLine Program = lineNumber 0
+verdictLine Banks = lineNumber 0
+verdictLine (Mismatch N) = lineNumber 0
 
 -- N is 0 unless the verdict is 31
-abbrev pub configOf : Verdict → ConfigNumber
-configOf Done = configNumber 0
-configOf Setting = configNumber 0
-configOf (File r) = configNumber 0
-configOf Nack = configNumber 0
-configOf Shape = configNumber 0
-configOf Pec = configNumber 0
-configOf Counter = configNumber 0
-configOf Identity = configNumber 0
-configOf Flag = configNumber 0
-configOf Old = configNumber 0
-configOf OtherKind = configNumber 0
-configOf Places = configNumber 0
-configOf Program = configNumber 0
-configOf Banks = configNumber 0
-configOf (Mismatch N) = N
+abbrev pub verdictConfig : Verdict → ConfigNumber
+verdictConfig Done = configNumber 0
+verdictConfig Setting = configNumber 0
+verdictConfig (File r) = configNumber 0
+verdictConfig Nack = configNumber 0
+verdictConfig Shape = configNumber 0
+verdictConfig Pec = configNumber 0
+verdictConfig Counter = configNumber 0
+verdictConfig Identity = configNumber 0
+verdictConfig Flag = configNumber 0
+verdictConfig Old = configNumber 0
+verdictConfig OtherKind = configNumber 0
+verdictConfig Places = configNumber 0
+verdictConfig Program = configNumber 0
+verdictConfig Banks = configNumber 0
+verdictConfig (Mismatch N) = N

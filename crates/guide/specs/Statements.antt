@@ -13,17 +13,17 @@ use Rattle.line.specs.Lines.{linesOf}
 use Rattle.line.specs.Digits.{digitVal, valuesOf}
 use Rattle.image.specs.declared.Summary.{Summary}
 use Rattle.image.specs.Says.{summaryOf}
-use Rattle.bus.specs.declared.Form.the-variants.{Good}
+use Rattle.bus.specs.declared.ReplyForm.the-variants.{Good}
 use Rattle.bus.specs.Bus.{eight, writeOf, pointTo, readData}
-use Rattle.bus.specs.Form.{formOf}
+use Rattle.bus.specs.ReplyForm.{formOf}
 use Rattle.guide.specs.declared.Verdict.{Verdict}
 use Rattle.guide.specs.declared.Verdict.the-variants.{Done}
 use Rattle.guide.specs.declared.Fit.the-variants as fit
-use Rattle.guide.specs.Numbers.{numberOf, configOf}
+use Rattle.guide.specs.Numbers.{verdictNumber, verdictConfig}
 use Rattle.guide.specs.Judged.{fitOf, bank, bankIn}
 use Rattle.guide.specs.Plan.{Reply, Mark, other, fileLine, Asked, Plan, ended, requests, verdict}
 use Rattle.guide.specs.Guide.{lineRequest, idIn, crcIn, writeLinesOf, guideFor}
-use Rattle.guide.specs.Matched.{Exchange, wrote, got, Answered, opening, Fits, Matched}
+use Rattle.guide.specs.Matched.{Exchange, wrote, got, Heard, opening, Fits, Matched}
 
 -- ---- the judgement passes exactly where the values match
 
@@ -58,10 +58,10 @@ beforeBurn n [] = []
 beforeBurn n (q ∷ qs) = cond (isBurnMark n (q .mark)) [] (q ∷ beforeBurn n qs)
 
 -- each of these requests has its reply, in form
-pub data InForm : List Asked → List Reply → Type 0 where
-  none : (rs : List Reply) → InForm [] rs
-  more : (q : Asked) (qs : List Asked) (r : Reply) (rs : List Reply) (w : ℕ) → formOf (q .request) (r .kind) (r .bytes) ≡ Good w → InForm qs rs
-      → InForm (q ∷ qs) (r ∷ rs)
+pub data AllInForm : List Asked → List Reply → Type 0 where
+  none : (rs : List Reply) → AllInForm [] rs
+  more : (q : Asked) (qs : List Asked) (r : Reply) (rs : List Reply) (w : ℕ) → formOf (q .request) (r .kind) (r .bytes) ≡ Good w → AllInForm qs rs
+      → AllInForm (q ∷ qs) (r ∷ rs)
 
 -- the requests of steps 1 and 2
 unfoldable pub openingCount : Bool → ℕ
@@ -115,8 +115,8 @@ module _ (text : List ℕ) (wanted : Bool) (limit restore : ℕ) (rs : List Repl
 
   -- the burn once if they matched and every earlier request was answered in form, otherwise never
   pub record Burns : Type 0 where
-    pub once : Matched file wanted rs → InForm (beforeBurn (file .lines) list) rs → burnsIn (file .lines) list ≡ 1
-    pub never : (Matched file wanted rs × InForm (beforeBurn (file .lines) list) rs → ⊥) → burnsIn (file .lines) list ≡ 0
+    pub once : Matched file wanted rs → AllInForm (beforeBurn (file .lines) list) rs → burnsIn (file .lines) list ≡ 1
+    pub never : (Matched file wanted rs × AllInForm (beforeBurn (file .lines) list) rs → ⊥) → burnsIn (file .lines) list ≡ 0
 
   -- at most lines + poll limit + 3 x configurations + 9
   unfoldable pub Bounded : Type 0
@@ -139,8 +139,8 @@ module _ (text : List ℕ) (wanted : Bool) (limit restore : ℕ) (rs : List Repl
     pub busy : List ℕ
     pub last : ℕ
     pub banks : ℕ
-    pub answered : Answered
-        (opening wanted (matched .first) (matched .counter) (matched .identity) (matched .flag) (matched .revision)
+    pub answered : Heard
+        (opening wanted (matched .captured) (matched .counter) (matched .identity) (matched .flag) (matched .revision)
         ++ (heard3 (writeLinesOf text)
         ++ (wrote (pointTo 0x7E 0x00) ∷ (heard4 busy
         ++ (got readData last ∷ wrote (pointTo 0x7F 0x00) ∷ got readData banks ∷ heard6 file restore (file .configs) 0)))))
@@ -168,4 +168,4 @@ Settled p rs later =
 
 -- N is 0 unless the verdict is 31
 unfoldable pub OnlyMismatch : Verdict → Type 0
-OnlyMismatch v = (numberOf v ≡ 31 → ⊥) → configOf v ≡ configNumber 0
+OnlyMismatch v = (verdictNumber v ≡ 31 → ⊥) → verdictConfig v ≡ configNumber 0

@@ -4,11 +4,11 @@ use crate::Verdict;
 use counts::Kind;
 use counts::KindFound;
 ghost use mathlib.Core.Path.{_≡_};
-ghost use Rattle.guide.specs.Judged.{wantedOf, sameKind, fitKind, fitOf};
+ghost use Rattle.guide.specs.Judged.{kindWanted, sameKind, fitKind, fitOf};
 
 // The kind of file that a device with this counter and this flag wants.
-pub fn wanted(counter: u32, flag: u32) -> KindFound
-    ensures { λ r. ⌜ r ≡ wantedOf counter flag ⌝ }
+pub fn kind_wanted(counter: u32, flag: u32) -> KindFound
+    ensures { λ r. ⌜ r ≡ kindWanted counter flag ⌝ }
 {
     if flag == 0 {
         if counter < 28 {
@@ -94,7 +94,7 @@ impl Fit {
                 kept,
                 counter,
                 revision,
-                wanted(counter, flag),
+                kind_wanted(counter, flag),
             )
         } else {
             Fit::Fails(Verdict::Identity)

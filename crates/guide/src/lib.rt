@@ -5,7 +5,7 @@ mod numbers;
 mod words;
 
 use counts::ConfigNumber;
-pub use fits::wanted;
+pub use fits::kind_wanted;
 pub use found::banks_right;
 use image::Refusal;
 pub use words::cleared;

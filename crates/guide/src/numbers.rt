@@ -3,12 +3,12 @@ use crate::Verdict;
 use counts::ConfigNumber;
 use counts::LineNumber;
 ghost use mathlib.Core.Path.{_≡_};
-ghost use Rattle.guide.specs.Numbers.{numberOf, lineOf, configOf};
+ghost use Rattle.guide.specs.Numbers.{verdictNumber, verdictLine, verdictConfig};
 
 impl Verdict {
     // The number of the table of verdicts, or that of the refusal.
     pub fn number(self) -> u8
-        ensures { λ r. ⌜ r ≡ numberOf self ⌝ }
+        ensures { λ r. ⌜ r ≡ verdictNumber self ⌝ }
     {
         match self {
             Verdict::Done => 0,
@@ -31,7 +31,7 @@ impl Verdict {
 
     // A refused file's line, and 0 with every other verdict.
     pub fn line(self) -> LineNumber
-        ensures { λ r. ⌜ r ≡ lineOf self ⌝ }
+        ensures { λ r. ⌜ r ≡ verdictLine self ⌝ }
     {
         match self {
             Verdict::Done => LineNumber(0),
@@ -54,7 +54,7 @@ impl Verdict {
 
     // N is 0 unless the verdict is 31.
     pub fn config(self) -> ConfigNumber
-        ensures { λ r. ⌜ r ≡ configOf self ⌝ }
+        ensures { λ r. ⌜ r ≡ verdictConfig self ⌝ }
     {
         match self {
             Verdict::Done => ConfigNumber(0),

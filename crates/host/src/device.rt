@@ -107,7 +107,7 @@ fn register_of(low: u8, high: u8) -> u16 {
 }
 
 fn is_burn(bytes: [u8; 8]) -> bool {
-    if bytes[1] == Bus::COMMAND {
+    if bytes[1] == Bus::ACT {
         if bytes[2] == 8 { bytes[3] == 0 } else { false }
     } else {
         false

@@ -11,10 +11,10 @@ use Rattle.line.specs.declared.Line.{Line}
 use Rattle.line.specs.Lines.{linesOf}
 use Rattle.image.specs.declared.Told.{Told}
 use Rattle.image.specs.declared.Told.the-variants.{Whole, Bad}
-use Rattle.image.specs.declared.Answer.the-variants.{Accepted}
+use Rattle.image.specs.declared.FileAnswer.the-variants.{Accepted}
 use Rattle.image.specs.Says.{idOf, fileKind, fileConfigs, idLine, summaryOf}
 use Rattle.image.specs.Tests.{tooFew, fitsNone}
-use Rattle.image.specs.Check.{first, checkOf}
+use Rattle.image.specs.Check.{firstRefusal, checkOf}
 use Rattle.image.specs.Walk.{start, factsFrom}
 use Rattle.image.specs.Holds.{Holds, BurnLast, Writes, Sound}
 use Rattle.image.proofs.Places.{place-from, configs-le}
@@ -36,7 +36,7 @@ says-of s e = summary-is s (sym (answer-is s) ∙ e)
 
 -- the walk over good lines ends whole, so the text holds them
 holds-of : {s : List ℕ} → Passed s → Holds s 0 1 (saysOf (linesOf s))
-unfolding answerBy start first
+unfolding answerBy start firstRefusal
 holds-of {s} p = ended (factsFrom start (linesOf s)) refl (told-first start (linesOf s) [] ∙ rw append-nil (read-lines (linesOf s) 1 (p .reads)))
   where
     ended : (t : Told) → factsFrom start (linesOf s) ≡ t → answerBy t Accepted ≡ Accepted → Holds s 0 1 (saysOf (linesOf s))
@@ -44,7 +44,7 @@ holds-of {s} p = ended (factsFrom start (linesOf s)) refl (told-first start (lin
     ended (Bad r) w e = refused r e
 
 -- behind the four lines of the header
-pub held-writes : (s : List ℕ) → checkOf s .answer ≡ Accepted → Holds s (summaryOf s .first) 5 (drop 4 (saysOf (linesOf s)))
+pub held-writes : (s : List ℕ) → checkOf s .answer ≡ Accepted → Holds s (summaryOf s .line5) 5 (drop 4 (saysOf (linesOf s)))
 unfolding tooFew summaryOf
 held-writes s e =
     let p = tests-of s e in

@@ -18,63 +18,63 @@ use Rattle.image.specs.declared.Told.{Told}
 use Rattle.image.specs.declared.Told.the-variants.{Whole, Bad}
 use Rattle.image.specs.declared.Refusal.{Refusal}
 use Rattle.image.specs.declared.Refusal.the-variants.{Size, Count, Revision, Device, Burn, Spot, Beyond, Same}
-use Rattle.image.specs.declared.Answer.{Answer}
+use Rattle.image.specs.declared.FileAnswer.{FileAnswer}
 use Rattle.image.specs.declared.Checked.{Checked}
 use Rattle.image.specs.Says.{kindIn, lineNo, revisionSays, fileKind, fileConfigs}
 use Rattle.image.specs.Tests.{knownDevice, isUnknown, tooLong, tooFew, otherRevision, otherDevice, fitsNone, burnAmiss, beyond, otherSpot, sameIds}
-use Rattle.image.specs.Check.{refusedIf, first, lineAnswers, wholeAnswers, answerOf, checkedAs, checkOf}
+use Rattle.image.specs.Check.{refusedIf, firstRefusal, lineAnswers, wholeAnswers, answerOf, checkedAs, checkOf}
 use Rattle.image.specs.Walk.{start, factsFrom, spotsTo}
 use Rattle.image.specs.Cascade.{refusedBy, onSpots, onConfigs, onKind, onFacts, onTold, walkOf}
 use Rattle.image.proofs.Places.{configs-le}
 use Rattle.image.proofs.Said.{answerBy, told-first}
 use Rattle.image.proofs.Walked.{line-no, count, burn, other-spot, same-ids, said, not-beyond}
 
-stage : (s : List ℕ) (t : Bool) (r : Refusal) {x : Checked} (more : List Answer) → (t ≡ false → x ≡ checkedAs s (first more)) →
-    cond t (refusedBy r) x ≡ checkedAs s (first (refusedIf t r ∷ more))
-unfolding refusedBy checkedAs first refusedIf
+stage : (s : List ℕ) (t : Bool) (r : Refusal) {x : Checked} (more : List FileAnswer) → (t ≡ false → x ≡ checkedAs s (firstRefusal more)) →
+    cond t (refusedBy r) x ≡ checkedAs s (firstRefusal (refusedIf t r ∷ more))
+unfolding refusedBy checkedAs firstRefusal refusedIf
 stage s true r more on = refl
 stage s false r more on = on refl
 
 -- where the test is that something is there
-stage-not : (s : List ℕ) (t : Bool) (r : Refusal) {x : Checked} (more : List Answer) → x ≡ checkedAs s (first more) →
-    cond t x (refusedBy r) ≡ checkedAs s (first (refusedIf (not t) r ∷ more))
-unfolding refusedBy checkedAs first refusedIf
+stage-not : (s : List ℕ) (t : Bool) (r : Refusal) {x : Checked} (more : List FileAnswer) → x ≡ checkedAs s (firstRefusal more) →
+    cond t x (refusedBy r) ≡ checkedAs s (firstRefusal (refusedIf (not t) r ∷ more))
+unfolding refusedBy checkedAs firstRefusal refusedIf
 stage-not s true r more on = on
 stage-not s false r more on = refl
 
 -- the list from a test on
 module _ (ls : List (List ℕ)) where
-  abbrev fromSame : List Answer
+  abbrev fromSame : List FileAnswer
   fromSame = refusedIf (sameIds ls) Same ∷ []
 
-  abbrev fromSpot : List Answer
+  abbrev fromSpot : List FileAnswer
   fromSpot = refusedIf (otherSpot ls) Spot ∷ fromSame
 
-  abbrev fromBeyond : List Answer
+  abbrev fromBeyond : List FileAnswer
   fromBeyond = refusedIf (beyond ls) Beyond ∷ fromSpot
 
-  abbrev fromBurn : List Answer
+  abbrev fromBurn : List FileAnswer
   fromBurn = refusedIf (burnAmiss ls) Burn ∷ fromBeyond
 
-  abbrev fromFits : List Answer
+  abbrev fromFits : List FileAnswer
   fromFits = refusedIf (fitsNone ls) Count ∷ fromBurn
 
-  abbrev fromDevice : List Answer
+  abbrev fromDevice : List FileAnswer
   fromDevice = refusedIf (otherDevice ls) Device ∷ fromFits
 
-  abbrev fromRevision : List Answer
+  abbrev fromRevision : List FileAnswer
   fromRevision = refusedIf (otherRevision ls) Revision ∷ fromDevice
 
 module _ (s : List ℕ) (g : Facts) (whole : factsFrom start (linesOf s) ≡ Whole g) where
   on-spots : (kind : Kind) → fileKind (linesOf s) ≡ kind → (k : ℕ) → fileConfigs (linesOf s) ≡ k → k ≤ 8 →
-      onSpots s g kind k (spotsTo kind s k) ≡ checkedAs s (first (fromSpot (linesOf s)))
-  unfolding onSpots first
+      onSpots s g kind k (spotsTo kind s k) ≡ checkedAs s (firstRefusal (fromSpot (linesOf s)))
+  unfolding onSpots firstRefusal
   on-spots kind p k q few =
       rw (other-spot s g whole kind p k q few, same-ids s g whole kind p k q few)
       (stage s (otherSpot (linesOf s)) Spot (fromSame (linesOf s)) (λ e. stage s (sameIds (linesOf s)) Same [] (λ e. said s g whole kind p k q few)))
 
   on-configs : 0 < length (linesOf s) → (kind : Kind) → fileKind (linesOf s) ≡ kind → (k : ℕ) → fileConfigs (linesOf s) ≡ k → k ≤ 8 →
-      onConfigs s g kind k ≡ checkedAs s (first (fromFits (linesOf s)))
+      onConfigs s g kind k ≡ checkedAs s (firstRefusal (fromFits (linesOf s)))
   unfolding onConfigs fitsNone
   on-configs h kind p k q few =
       rw (burn s g whole h, q)
@@ -93,8 +93,8 @@ module _ (s : List ℕ) (g : Facts) (whole : factsFrom start (linesOf s) ≡ Who
   configs-are kind p = rw (p, count s g whole)
 
   on-kind : 0 < length (linesOf s) → (found : KindFound) → revisionSays (linesOf s) ≡ found →
-      onKind s g found ≡ checkedAs s (first (fromRevision (linesOf s)))
-  unfolding onKind otherRevision isUnknown otherDevice refusedBy checkedAs first refusedIf
+      onKind s g found ≡ checkedAs s (firstRefusal (fromRevision (linesOf s)))
+  unfolding onKind otherRevision isUnknown otherDevice refusedBy checkedAs firstRefusal refusedIf
   on-kind h Unknown p = rw p
   on-kind h (Is kind) p =
       let isKind : fileKind (linesOf s) ≡ kind = kind-is kind p in
@@ -103,7 +103,7 @@ module _ (s : List ℕ) (g : Facts) (whole : factsFrom start (linesOf s) ≡ Who
       (stage-not s (knownDevice (lineNo (linesOf s) (lineNumber 1))) Device (fromFits (linesOf s))
       (on-configs h kind isKind (configsOf kind (g .lines)) configs (configs-le kind (g .lines))))
 
-  on-facts : onFacts s g ≡ checkedAs s (first (wholeAnswers (linesOf s)))
+  on-facts : onFacts s g ≡ checkedAs s (firstRefusal (wholeAnswers (linesOf s)))
   unfolding onFacts wholeAnswers tooFew revisionSays
   on-facts =
       let few : ltb (g .lines) 13 ≡ ltb (length (linesOf s)) 13 = rw (count s g whole) in
@@ -112,7 +112,7 @@ module _ (s : List ℕ) (g : Facts) (whole : factsFrom start (linesOf s) ≡ Who
       on-kind (omega (arith, ltb-false (length (linesOf s)) 13 e)) _ (ap (λ (l : Line). kindOf (l .d0)) (sym (line-no s g whole 2 (omega arith))))))
 
 -- 2 to 6
-on-told : (s : List ℕ) (t : Told) → factsFrom start (linesOf s) ≡ t → onTold s t ≡ checkedAs s (answerBy t (first (wholeAnswers (linesOf s))))
+on-told : (s : List ℕ) (t : Told) → factsFrom start (linesOf s) ≡ t → onTold s t ≡ checkedAs s (answerBy t (firstRefusal (wholeAnswers (linesOf s))))
 unfolding onTold answerBy refusedBy checkedAs
 on-told s (Whole g) e = on-facts s g e
 on-told s (Bad r) e = refl

@@ -9,7 +9,7 @@ use lib.ListN.{length, getD}
 use borrow.Author.Tests.{eqb-true}
 use Rattle.counts.specs.Counts.{configId}
 use Rattle.line.specs.Reading.{dataOf, lineOf}
-use Rattle.line.specs.Form.{LineForm}
+use Rattle.line.specs.LineForm.{LineForm}
 use Rattle.line.proofs.Basics.{and-true}
 use Rattle.line.proofs.Parts.{slice-get}
 use Rattle.line.proofs.Rows.{row-count, row-by}

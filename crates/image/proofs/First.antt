@@ -1,4 +1,4 @@
--- The first fault of a list of answers: there is none exactly where every answer accepts, and where every line reads as good.
+-- The firstRefusal fault of a list of answers: there is none exactly where every answer accepts, and where every line reads as good.
 -- Assumes nothing.
 use mathlib.Core.Path.{_≡_, refl}
 use mathlib.Core.Bool.{Bool, true, false}
@@ -13,28 +13,28 @@ use Rattle.line.specs.declared.LineReading.{LineReading}
 use Rattle.line.specs.declared.LineReading.the-variants as reading
 use Rattle.line.specs.Reading.{readLine}
 use Rattle.image.specs.declared.Refusal.{Refusal}
-use Rattle.image.specs.declared.Answer.{Answer}
-use Rattle.image.specs.declared.Answer.the-variants.{Accepted, Refused}
-use Rattle.image.specs.Check.{refusedIf, first, lineAnswer, lineAnswers}
+use Rattle.image.specs.declared.FileAnswer.{FileAnswer}
+use Rattle.image.specs.declared.FileAnswer.the-variants.{Accepted, Refused}
+use Rattle.image.specs.Check.{refusedIf, firstRefusal, lineAnswer, lineAnswers}
 
 pub refused : {A : Type 0} (r : Refusal) → Refused r ≡ Accepted → A
 refused r e = let z : _≡_ {A = ℕ} 0 1 = cc in absurd (let y : ⊥ = omega arith in y)
 
 -- ---- a list of answers
 
-pub first-cons : (a : Answer) (more : List Answer) → first (a ∷ more) ≡ Accepted → (a ≡ Accepted) × (first more ≡ Accepted)
-unfolding first
+pub first-cons : (a : FileAnswer) (more : List FileAnswer) → firstRefusal (a ∷ more) ≡ Accepted → (a ≡ Accepted) × (firstRefusal more ≡ Accepted)
+unfolding firstRefusal
 first-cons Accepted more e = (refl, e)
 first-cons (Refused r) more e = refused r e
 
-pub first-append : (a b : List Answer) → first (a ++ b) ≡ Accepted → (first a ≡ Accepted) × (first b ≡ Accepted)
-unfolding first
+pub first-append : (a b : List FileAnswer) → firstRefusal (a ++ b) ≡ Accepted → (firstRefusal a ≡ Accepted) × (firstRefusal b ≡ Accepted)
+unfolding firstRefusal
 first-append [] b e = (refl, e)
 first-append (Accepted ∷ a) b e = first-append a b e
 first-append (Refused r ∷ a) b e = refused r e
 
-pub append-first : (a b : List Answer) → first a ≡ Accepted → first (a ++ b) ≡ first b
-unfolding first
+pub append-first : (a b : List FileAnswer) → firstRefusal a ≡ Accepted → firstRefusal (a ++ b) ≡ firstRefusal b
+unfolding firstRefusal
 append-first [] b e = refl
 append-first (Accepted ∷ a) b e = append-first a b e
 append-first (Refused r ∷ a) b e = refused r e
@@ -55,7 +55,7 @@ unfolding lineAnswer
 line-reads n t (reading.Good l) p e = record { line = l; good = p }
 line-reads n t (reading.Refused fault) p e = refused _ e
 
-pub lines-read : (ts : List (List ℕ)) (n : ℕ) → first (lineAnswers n ts) ≡ Accepted → (i : ℕ) → i < length ts → Reads (lineNumber (n + i)) (getD ts i [])
+pub lines-read : (ts : List (List ℕ)) (n : ℕ) → firstRefusal (lineAnswers n ts) ≡ Accepted → (i : ℕ) → i < length ts → Reads (lineNumber (n + i)) (getD ts i [])
 unfolding lineAnswers
 lines-read [] n e i h = absurd (let y : ⊥ = omega arith in y)
 lines-read (t ∷ ts) n e zero h =
@@ -65,8 +65,8 @@ lines-read (t ∷ ts) n e (suc i) h =
     let f : n + suc i ≡ n + 1 + i = omega arith in
     rw f (lines-read ts (n + 1) (first-cons _ (lineAnswers (n + 1) ts) e .1) i (omega arith))
 
-pub read-lines : (ts : List (List ℕ)) (n : ℕ) → ((i : ℕ) → i < length ts → Reads (lineNumber (n + i)) (getD ts i [])) → first (lineAnswers n ts) ≡ Accepted
-unfolding lineAnswers lineAnswer first
+pub read-lines : (ts : List (List ℕ)) (n : ℕ) → ((i : ℕ) → i < length ts → Reads (lineNumber (n + i)) (getD ts i [])) → firstRefusal (lineAnswers n ts) ≡ Accepted
+unfolding lineAnswers lineAnswer firstRefusal
 read-lines [] n f = refl
 read-lines (t ∷ ts) n f =
     let e : n + 0 ≡ n = omega arith in

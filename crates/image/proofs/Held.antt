@@ -11,9 +11,9 @@ use Rattle.counts.specs.Counts.{lineNumber}
 use Rattle.line.specs.declared.Line.{Line}
 use Rattle.line.specs.declared.LineReading.{LineReading}
 use Rattle.line.specs.declared.LineReading.the-variants.{Good, Refused}
-use Rattle.line.specs.declared.Step.the-variants.{End, Took}
+use Rattle.line.specs.declared.NextLine.the-variants.{End, Took}
 use Rattle.line.specs.Lines.{linesOf, lineSkip, placeOf}
-use Rattle.line.specs.Reading.{readLine, stepBy, stepOf, stepAt}
+use Rattle.line.specs.Reading.{readLine, nextBy, nextOf, nextLine}
 use Rattle.line.proofs.Basics.{split}
 use Rattle.line.proofs.Cuts.{lines-at, place-on, place-none}
 use Rattle.image.specs.declared.Facts.{Facts}
@@ -33,21 +33,21 @@ module _ (s : List ℕ) where
 
   pub held : (ts : List (List ℕ)) (at : ℕ) (f g : Facts) → linesOf (drop at s) ≡ ts → factsFrom f ts ≡ Whole g →
       Holds s at (f .lines + 1) (saysOf ts)
-  unfolding stepOf stepBy Holds factsWith saysOf
+  unfolding nextOf nextBy Holds factsWith saysOf
   held [] at f g e p = rw e
   held (t ∷ ts) at f g e p =
       let r = goes f g t ts p in
       (at + lineSkip (drop at s), rw (e, r .reads), held ts _ (factsWith f (lineSays t)) g (behind at t ts e) (r .rest))
 
   -- ---- without the first lines
-  next-is : (at : ℕ) (l : Line) (next : ℕ) (r : LineReading) → stepBy r (at + lineSkip (drop at s)) ≡ Took l next → next ≡ at + lineSkip (drop at s)
-  unfolding stepBy
+  next-is : (at : ℕ) (l : Line) (next : ℕ) (r : LineReading) → nextBy r (at + lineSkip (drop at s)) ≡ Took l next → next ≡ at + lineSkip (drop at s)
+  unfolding nextBy
   next-is at l next (Good m) e = cc
   next-is at l next (Refused g) e = cc
 
   took-next : (n : LineNumber) (at : ℕ) (l : Line) (next : ℕ) (ls : List (List ℕ)) → linesOf (drop at s) ≡ ls →
-      stepOf n (at + lineSkip (drop at s)) ls ≡ Took l next → next ≡ at + lineSkip (drop at s)
-  unfolding stepOf
+      nextOf n (at + lineSkip (drop at s)) ls ≡ Took l next → next ≡ at + lineSkip (drop at s)
+  unfolding nextOf
   took-next n at l next [] p e = cc
   took-next n at l next (t ∷ ls) p e = next-is at l next (readLine n t) e
 
@@ -69,18 +69,18 @@ module _ (s : List ℕ) where
       rw (place-on s at (suc k) (omega arith), e, f, ← q) (holds-drop k ls (p .0) (n + 1) (omega arith) (p .2))
 
   -- ---- each line by its number
-  end-past : (at : ℕ) (n : LineNumber) → stepAt n at s ≡ End → length s ≤ at
-  unfolding stepBy
+  end-past : (at : ℕ) (n : LineNumber) → nextLine n at s ≡ End → length s ≤ at
+  unfolding nextBy
   end-past at n e =
       split (ltb at (length s))
       (λ h. no-end (at + lineSkip (drop at s)) (readLine n (textAt at s)) (sym (step-here s at n (ltb-true at (length s) h)) ∙ e)) (ltb-false at (length s))
     where
-      no-end : {A : Type 0} (k : ℕ) (r : LineReading) → stepBy r k ≡ End → A
+      no-end : {A : Type 0} (k : ℕ) (r : LineReading) → nextBy r k ≡ End → A
       no-end k (Good m) e = let z : _≡_ {A = ℕ} 0 1 = cc in absurd (let y : ⊥ = omega arith in y)
       no-end k (Refused g) e = let z : _≡_ {A = ℕ} 0 1 = cc in absurd (let y : ⊥ = omega arith in y)
 
   line-from : (k : ℕ) (ls : List Line) (at n : ℕ) → Holds s at n ls →
-      lineIn (stepAt (lineNumber (n + k)) (at + placeOf k (drop at s)) s) ≡ getD ls k noLine
+      lineIn (nextLine (lineNumber (n + k)) (at + placeOf k (drop at s)) s) ≡ getD ls k noLine
   unfolding Holds lineIn
   line-from zero [] at n p = rw (at-none at, none n, p)
   line-from zero (l ∷ ls) at n p = rw (at-none at, none n, p .1)

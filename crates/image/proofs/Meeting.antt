@@ -14,8 +14,8 @@ use Rattle.line.specs.Lines.{linesOf}
 use Rattle.line.specs.Reading.{faultNumber}
 use Rattle.image.specs.declared.Refusal.{Refusal}
 use Rattle.image.specs.declared.Refusal.the-variants.{Size, Line, Count, Revision, Device, Burn, Spot, Beyond, Same}
-use Rattle.image.specs.declared.Answer.{Answer}
-use Rattle.image.specs.declared.Answer.the-variants.{Accepted, Refused}
+use Rattle.image.specs.declared.FileAnswer.{FileAnswer}
+use Rattle.image.specs.declared.FileAnswer.the-variants.{Accepted, Refused}
 use Rattle.image.specs.Says.{kindIn, revisionSays, fileKind, fileConfigs}
 use Rattle.image.specs.Tests.{isUnknown, knownDevice, tooLong, tooFew, otherRevision, otherDevice, fitsNone}
 use Rattle.image.specs.Check.{refusalNumber, answerNumber, checkOf}
@@ -93,7 +93,7 @@ refusal-some Spot = lit< tt
 refusal-some Beyond = lit< tt
 refusal-some Same = lit< tt
 
-pub zero-accepts : (a : Answer) → answerNumber a ≡ 0 → a ≡ Accepted
+pub zero-accepts : (a : FileAnswer) → answerNumber a ≡ 0 → a ≡ Accepted
 zero-accepts Accepted e = refl
 zero-accepts (Refused r) e = absurd (let y : ⊥ = omega (arith, refusal-some r) in y)
 

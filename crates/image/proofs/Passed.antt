@@ -7,11 +7,11 @@ use lib.ListN.{length, getD}
 use Rattle.counts.specs.Counts.{lineNumber}
 use Rattle.line.specs.Lines.{linesOf}
 use Rattle.image.specs.declared.Refusal.the-variants.{Size, Count, Revision, Device, Burn, Spot, Beyond, Same}
-use Rattle.image.specs.declared.Answer.{Answer}
-use Rattle.image.specs.declared.Answer.the-variants.{Accepted, Refused}
+use Rattle.image.specs.declared.FileAnswer.{FileAnswer}
+use Rattle.image.specs.declared.FileAnswer.the-variants.{Accepted, Refused}
 use Rattle.image.specs.Says.{summaryOf}
 use Rattle.image.specs.Tests.{tooLong, tooFew, otherRevision, otherDevice, fitsNone, burnAmiss, beyond, otherSpot, sameIds}
-use Rattle.image.specs.Check.{refusedIf, first, lineAnswers, wholeAnswers, answerOf, checkedAs, checkOf}
+use Rattle.image.specs.Check.{refusedIf, firstRefusal, lineAnswers, wholeAnswers, answerOf, checkedAs, checkOf}
 use Rattle.image.proofs.First.{first-cons, first-append, append-first, passes, Reads, lines-read, read-lines}
 
 pub record Passed (s : List ℕ) : Type 0 where
@@ -54,7 +54,7 @@ passed s e =
     }
 
 pub accepts : {s : List ℕ} → Passed s → answerOf s ≡ Accepted
-unfolding answerOf wholeAnswers refusedIf first
+unfolding answerOf wholeAnswers refusedIf firstRefusal
 accepts {s} p =
     let ls = linesOf s in
     rw (p .short)
@@ -65,11 +65,11 @@ pub answer-is : (s : List ℕ) → checkOf s .answer ≡ answerOf s
 unfolding checkOf checkedAs
 answer-is s = carried (answerOf s)
   where
-    carried : (a : Answer) → checkedAs s a .answer ≡ a
+    carried : (a : FileAnswer) → checkedAs s a .answer ≡ a
     carried Accepted = refl
     carried (Refused r) = refl
 
 -- an accepted file's summary is what its lines say
 pub summary-is : (s : List ℕ) → answerOf s ≡ Accepted → checkOf s .summary ≡ summaryOf s
 unfolding checkOf checkedAs
-summary-is s e = ap (λ (a : Answer). checkedAs s a .summary) e
+summary-is s e = ap (λ (a : FileAnswer). checkedAs s a .summary) e

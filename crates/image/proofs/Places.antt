@@ -12,7 +12,7 @@ use Rattle.counts.specs.declared.Kind.the-variants.{Legacy, Production}
 use Rattle.counts.specs.Counts.{lineNumber, configNumber, stepOf, crcPlace, identifierLine, crcLine, configsOf}
 use Rattle.line.specs.Lines.{placeOf}
 use Rattle.line.proofs.Cuts.{place-add}
-use Rattle.line.specs.Reading.{stepAt}
+use Rattle.line.specs.Reading.{nextLine}
 use Rattle.image.specs.Walk.{lineIn, lineAt}
 
 -- from the place behind j lines, over m more
@@ -38,14 +38,14 @@ place-start Legacy s = refl
 place-start Production s = refl
 
 -- the first two lines, and line 5
-pub line-one : (s : List ℕ) → lineIn (stepAt (lineNumber 1) 0 s) ≡ lineAt (lineNumber 1) s
+pub line-one : (s : List ℕ) → lineIn (nextLine (lineNumber 1) 0 s) ≡ lineAt (lineNumber 1) s
 unfolding lineAt placeOf
 line-one s = refl
 
 pub place-from : (k : ℕ) (s : List ℕ) → 0 + placeOf k (drop 0 s) ≡ placeOf k s
 place-from k s = omega arith
 
-pub line-two : (s : List ℕ) → lineIn (stepAt (lineNumber 2) (placeOf 1 s) s) ≡ lineAt (lineNumber 2) s
+pub line-two : (s : List ℕ) → lineIn (nextLine (lineNumber 2) (placeOf 1 s) s) ≡ lineAt (lineNumber 2) s
 unfolding lineAt
 line-two s = refl
 

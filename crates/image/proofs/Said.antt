@@ -18,9 +18,9 @@ use Rattle.line.specs.Reading.{lineOf, badPairs, lengthRight, crcRight, formRig
 use Rattle.image.specs.declared.Facts.{Facts}
 use Rattle.image.specs.declared.Told.{Told}
 use Rattle.image.specs.declared.Told.the-variants.{Whole, Bad}
-use Rattle.image.specs.declared.Answer.{Answer}
-use Rattle.image.specs.declared.Answer.the-variants as answer
-use Rattle.image.specs.Check.{first, lineAnswer, lineAnswers}
+use Rattle.image.specs.declared.FileAnswer.{FileAnswer}
+use Rattle.image.specs.declared.FileAnswer.the-variants as answer
+use Rattle.image.specs.Check.{firstRefusal, lineAnswer, lineAnswers}
 use Rattle.image.specs.Walk.{noLine, factsWith, factsBy, factsFrom}
 
 abbrev pub lineSays : List ℕ → Line
@@ -62,7 +62,7 @@ good-says n t l e =
     kept true x e = cc
     kept false x e = e
 
--- ---- the first line of some that are all good
+-- ---- the firstRefusal line of some that are all good
 module _ (f g : Facts) (t : List ℕ) (ts : List (List ℕ)) where
   pub record Goes : Type 0 where
     pub reads : readLine (lineNumber (f .lines + 1)) t ≡ Good (lineSays t)
@@ -79,21 +79,21 @@ module _ (f g : Facts) (t : List ℕ) (ts : List (List ℕ)) where
   unfolding factsFrom
   goes p = goes-by _ refl p
 
--- ---- the walk's end is the first of the lines' answers
-unfoldable pub answerBy : Told → Answer → Answer
+-- ---- the walk's end is the firstRefusal of the lines' answers
+unfoldable pub answerBy : Told → FileAnswer → FileAnswer
 answerBy (Whole g) a = a
 answerBy (Bad r) a = answer.Refused r
 
-told-by : (f : Facts) (ts : List (List ℕ)) (more : List Answer) (r : LineReading) →
-    ((g : Facts) → g .lines ≡ f .lines + 1 → answerBy (factsFrom g ts) (first more) ≡ first (lineAnswers (f .lines + 1 + 1) ts ++ more)) →
-    answerBy (factsBy f r (λ h. factsFrom h ts)) (first more)
-    ≡ first (lineAnswer (lineNumber (f .lines + 1)) r ∷ (lineAnswers (f .lines + 1 + 1) ts ++ more))
-unfolding factsBy factsWith answerBy first lineAnswer
+told-by : (f : Facts) (ts : List (List ℕ)) (more : List FileAnswer) (r : LineReading) →
+    ((g : Facts) → g .lines ≡ f .lines + 1 → answerBy (factsFrom g ts) (firstRefusal more) ≡ firstRefusal (lineAnswers (f .lines + 1 + 1) ts ++ more)) →
+    answerBy (factsBy f r (λ h. factsFrom h ts)) (firstRefusal more)
+    ≡ firstRefusal (lineAnswer (lineNumber (f .lines + 1)) r ∷ (lineAnswers (f .lines + 1 + 1) ts ++ more))
+unfolding factsBy factsWith answerBy firstRefusal lineAnswer
 told-by f ts more (Good l) on = on (factsWith f l) refl
 told-by f ts more (Refused h) on = refl
 
-pub told-first : (f : Facts) (ts : List (List ℕ)) (more : List Answer) →
-    answerBy (factsFrom f ts) (first more) ≡ first (lineAnswers (f .lines + 1) ts ++ more)
+pub told-first : (f : Facts) (ts : List (List ℕ)) (more : List FileAnswer) →
+    answerBy (factsFrom f ts) (firstRefusal more) ≡ firstRefusal (lineAnswers (f .lines + 1) ts ++ more)
 unfolding factsFrom answerBy lineAnswers
 told-first f [] more = refl
 told-first f (t ∷ ts) more =

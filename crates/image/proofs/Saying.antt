@@ -58,7 +58,7 @@ summary-says {s} w =
       identity = rw e (ap identityOf (says spelled (lineNumber 1)) ∙ identity-is (m .form 1 (omega arith) (omega arith)) (omega arith));
       lines = rw e (spelled-length spelled);
       configs = rw e (t .configs);
-      first = rw e (lines-from 4 s);
+      line5 = rw e (lines-from 4 s);
       ids = λ N h.
           rw (e, t .steps)
           (eight-at k (λ n. idOf (idLine ls n)) (configId 0) N (omega arith) few

@@ -9,7 +9,7 @@ use Rattle.counts.specs.declared.Kind.{Kind}
 use Rattle.counts.specs.Counts.{lineNumber, stepOf, crcPlace, kindOf}
 use Rattle.line.specs.Digits.{digitVal, valuesOf}
 use Rattle.line.specs.Reading.{lineOf}
-use Rattle.line.specs.Form.{Spells, none as empty, LineForm}
+use Rattle.line.specs.LineForm.{Spells, none as empty, LineForm}
 use Rattle.line.proofs.Spelling.{spells-values}
 use Rattle.line.proofs.Forms.{form-good, good-form}
 use Rattle.image.specs.Says.{lineNo, revisionSays, fileKind, idLine, configCrcLine}

@@ -13,9 +13,9 @@ use Rattle.line.specs.declared.Line.{Line}
 use Rattle.line.specs.declared.Fault.{Fault}
 use Rattle.line.specs.declared.LineReading.{LineReading}
 use Rattle.line.specs.declared.LineReading.the-variants.{Good, Refused}
-use Rattle.line.specs.declared.Step.the-variants.{End, Took, Stopped}
+use Rattle.line.specs.declared.NextLine.the-variants.{End, Took, Stopped}
 use Rattle.line.specs.Lines.{linesOf, lineLen, lineSkip}
-use Rattle.line.specs.Reading.{readLine, stepBy, stepOf, stepAt}
+use Rattle.line.specs.Reading.{readLine, nextBy, nextOf, nextLine}
 use Rattle.line.proofs.Basics.{split}
 use Rattle.line.proofs.Cuts.{lines-at, next-within, next-after}
 use Rattle.image.specs.declared.Facts.{Facts}
@@ -30,28 +30,28 @@ textAt at s = take (lineLen (drop at s)) (drop at s)
 
 -- the line at a place, by its reading
 module _ (s : List ℕ) (at : ℕ) (n : LineNumber) where
-  pub step-here : at < length s → stepAt n at s ≡ stepBy (readLine n (textAt at s)) (at + lineSkip (drop at s))
-  unfolding stepOf
+  pub step-here : at < length s → nextLine n at s ≡ nextBy (readLine n (textAt at s)) (at + lineSkip (drop at s))
+  unfolding nextOf
   step-here h = rw (lines-at s at h)
 
-  pub step-past : length s ≤ at → stepAt n at s ≡ End
-  unfolding stepOf linesOf
+  pub step-past : length s ≤ at → nextLine n at s ≡ End
+  unfolding nextOf linesOf
   step-past h = rw (drop-of-length-le s h)
 
 -- what a reading's step says of the facts, where `on` gives those of the lines that follow
 module _ (f : Facts) (k : ℕ) (on : Facts → Told) where
-  end-by : (r : LineReading) → stepBy r k ≡ End → factsBy f r on ≡ Whole f
-  unfolding stepBy
+  end-by : (r : LineReading) → nextBy r k ≡ End → factsBy f r on ≡ Whole f
+  unfolding nextBy
   end-by (Good l) e = cc
   end-by (Refused h) e = cc
 
-  stop-by : (r : LineReading) (g : Fault) → stepBy r k ≡ Stopped g → factsBy f r on ≡ Bad (refusal.Line (lineNumber (f .lines + 1)) g)
-  unfolding stepBy factsBy
+  stop-by : (r : LineReading) (g : Fault) → nextBy r k ≡ Stopped g → factsBy f r on ≡ Bad (refusal.Line (lineNumber (f .lines + 1)) g)
+  unfolding nextBy factsBy
   stop-by (Good l) g e = cc
   stop-by (Refused h) g e = cc
 
-  take-by : (r : LineReading) (l : Line) (next : ℕ) → stepBy r k ≡ Took l next → (factsBy f r on ≡ on (factsWith f l)) × (next ≡ k)
-  unfolding stepBy factsBy
+  take-by : (r : LineReading) (l : Line) (next : ℕ) → nextBy r k ≡ Took l next → (factsBy f r on ≡ on (factsWith f l)) × (next ≡ k)
+  unfolding nextBy factsBy
   take-by (Good m) l next e = (cc, cc)
   take-by (Refused h) l next e = (cc, cc)
 
@@ -63,19 +63,19 @@ module _ (f : Facts) (s : List ℕ) (at : ℕ) where
   abbrev n : LineNumber
   n = lineNumber (f .lines + 1)
 
-  pub facts-end : stepAt n at s ≡ End → factsFrom f (linesOf (drop at s)) ≡ Whole f
+  pub facts-end : nextLine n at s ≡ End → factsFrom f (linesOf (drop at s)) ≡ Whole f
   unfolding factsFrom linesOf
   facts-end e =
       ⊎-elim (λ h. rw (drop-of-length-le s h))
       (λ h. rw (lines-at s at h) (end-by f _ _ _ (sym (step-here s at n h) ∙ e))) here?
 
-  pub facts-stop : (g : Fault) → stepAt n at s ≡ Stopped g → factsFrom f (linesOf (drop at s)) ≡ Bad (refusal.Line n g)
+  pub facts-stop : (g : Fault) → nextLine n at s ≡ Stopped g → factsFrom f (linesOf (drop at s)) ≡ Bad (refusal.Line n g)
   unfolding factsFrom
   facts-stop g e =
       ⊎-elim (λ h. cc (step-past s at n h))
       (λ h. rw (lines-at s at h) (stop-by f _ _ _ g (sym (step-here s at n h) ∙ e))) here?
 
-  pub facts-took : (l : Line) (next : ℕ) → stepAt n at s ≡ Took l next →
+  pub facts-took : (l : Line) (next : ℕ) → nextLine n at s ≡ Took l next →
       (factsFrom f (linesOf (drop at s)) ≡ factsFrom (factsWith f l) (linesOf (drop next s))) × (at < next) × (next ≤ length s)
   unfolding factsFrom
   facts-took l next e =

@@ -14,11 +14,11 @@ use Rattle.line.specs.declared.Line.{Line}
 use Rattle.line.specs.Lines.{linesOf, placeOf}
 use Rattle.image.specs.declared.Facts.{Facts}
 use Rattle.image.specs.declared.Told.the-variants.{Whole}
-use Rattle.image.specs.declared.Answer.the-variants.{Accepted}
+use Rattle.image.specs.declared.FileAnswer.the-variants.{Accepted}
 use Rattle.image.specs.declared.Checked.{Checked}
 use Rattle.image.specs.Says.{identityOf, idOf, crcOf, lineNo, fileKind, fileConfigs, idLine, configCrcLine, eightOf, summaryOf}
 use Rattle.image.specs.Tests.{burnAmiss, beyond, otherSpot, sameIds}
-use Rattle.image.specs.Check.{first, checkedAs}
+use Rattle.image.specs.Check.{firstRefusal, checkedAs}
 use Rattle.image.specs.Walk.{start, factsFrom, lineAt, offSpot, idLineAt, crcLineAt, spotsTo, sameIn}
 use Rattle.image.specs.Cascade.{burnAmissIn, lastBeyond}
 use Rattle.image.specs.Holds.{Holds}
@@ -91,7 +91,7 @@ module _ (s : List ℕ) (g : Facts) (whole : factsFrom start (linesOf s) ≡ Who
                   identity = identityOf (lineAt (lineNumber 1) s);
                   lines = g .lines;
                   configs = k;
-                  first = placeOf 4 s;
+                  line5 = placeOf 4 s;
                   ids = spotsTo kind s k .ids;
                   crcs = spotsTo kind s k .crcs;
                 };

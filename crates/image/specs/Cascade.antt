@@ -17,7 +17,7 @@ use Rattle.image.specs.declared.Told.the-variants.{Whole, Bad}
 use Rattle.image.specs.declared.Spots.{Spots}
 use Rattle.image.specs.declared.Refusal.{Refusal}
 use Rattle.image.specs.declared.Refusal.the-variants.{Size, Count, Revision, Device, Burn, Spot, Beyond, Same}
-use Rattle.image.specs.declared.Answer.the-variants.{Accepted, Refused}
+use Rattle.image.specs.declared.FileAnswer.the-variants.{Accepted, Refused}
 use Rattle.image.specs.declared.Checked.{Checked}
 use Rattle.image.specs.Says.{identityOf, noSummary}
 use Rattle.image.specs.Tests.{knownDevice}
@@ -39,7 +39,7 @@ onSpots s f kind k sp =
             identity = identityOf (lineAt (lineNumber 1) s);
             lines = f .lines;
             configs = k;
-            first = placeOf 4 s;
+            line5 = placeOf 4 s;
             ids = sp .ids;
             crcs = sp .crcs;
           };

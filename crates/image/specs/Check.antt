@@ -1,4 +1,4 @@
--- The answer for a whole file: the first fault in a written list of tests, in the order of document 01, "Numbers for a file".
+-- The answer for a whole file: the firstRefusal fault in a written list of tests, in the order of document 01, "Numbers for a file".
 -- Assumes nothing.
 use Prim.Native.Nat.{ℕ, _+_}
 use mathlib.Core.Bool.{Bool, true, false}
@@ -11,8 +11,8 @@ use Rattle.line.specs.Lines.{linesOf}
 use Rattle.line.specs.Reading.{faultNumber, readLine}
 use Rattle.image.specs.declared.Refusal.{Refusal}
 use Rattle.image.specs.declared.Refusal.the-variants.{Size, Line, Count, Revision, Device, Burn, Spot, Beyond, Same}
-use Rattle.image.specs.declared.Answer.{Answer}
-use Rattle.image.specs.declared.Answer.the-variants.{Accepted, Refused}
+use Rattle.image.specs.declared.FileAnswer.{FileAnswer}
+use Rattle.image.specs.declared.FileAnswer.the-variants.{Accepted, Refused}
 use Rattle.image.specs.declared.Checked.{Checked}
 use Rattle.image.specs.Says.{summaryOf, noSummary}
 use Rattle.image.specs.Tests.{tooLong, tooFew, otherRevision, otherDevice, fitsNone, burnAmiss, beyond, otherSpot, sameIds}
@@ -42,47 +42,47 @@ refusalLine Beyond = lineNumber 0
 refusalLine Same = lineNumber 0
 
 -- 0 if accepted
-abbrev pub answerNumber : Answer → ℕ
+abbrev pub answerNumber : FileAnswer → ℕ
 answerNumber Accepted = 0
 answerNumber (Refused r) = refusalNumber r
 
-abbrev pub answerLine : Answer → LineNumber
+abbrev pub answerLine : FileAnswer → LineNumber
 answerLine Accepted = lineNumber 0
 answerLine (Refused r) = refusalLine r
 
 -- ---- the order
 
-unfoldable pub refusedIf : Bool → Refusal → Answer
+unfoldable pub refusedIf : Bool → Refusal → FileAnswer
 refusedIf true r = Refused r
 refusedIf false r = Accepted
 
-unfoldable pub first : List Answer → Answer
-first [] = Accepted
-first (Accepted ∷ more) = first more
-first (Refused r ∷ more) = Refused r
+unfoldable pub firstRefusal : List FileAnswer → FileAnswer
+firstRefusal [] = Accepted
+firstRefusal (Accepted ∷ more) = firstRefusal more
+firstRefusal (Refused r ∷ more) = Refused r
 
 -- a line's own answer, 2 to 6
-unfoldable pub lineAnswer : LineNumber → LineReading → Answer
+unfoldable pub lineAnswer : LineNumber → LineReading → FileAnswer
 lineAnswer n (reading.Good l) = Accepted
 lineAnswer n (reading.Refused fault) = Refused (Line n fault)
 
--- those of all lines, the first of which has the number n
-unfoldable pub lineAnswers : ℕ → List (List ℕ) → List Answer
+-- those of all lines, the firstRefusal of which has the number n
+unfoldable pub lineAnswers : ℕ → List (List ℕ) → List FileAnswer
 lineAnswers n [] = []
 lineAnswers n (t ∷ ts) = lineAnswer (lineNumber n) (readLine (lineNumber n) t) ∷ lineAnswers (n + 1) ts
 
 -- 7 for under 13 lines, 8, 9, 7 for n, 10, 12, 11, 13
-unfoldable pub wholeAnswers : List (List ℕ) → List Answer
+unfoldable pub wholeAnswers : List (List ℕ) → List FileAnswer
 wholeAnswers ls =
     refusedIf (tooFew ls) Count ∷ refusedIf (otherRevision ls) Revision ∷ refusedIf (otherDevice ls) Device
     ∷ refusedIf (fitsNone ls) Count ∷ refusedIf (burnAmiss ls) Burn ∷ refusedIf (beyond ls) Beyond
     ∷ refusedIf (otherSpot ls) Spot ∷ refusedIf (sameIds ls) Same ∷ []
 
--- 1; then the first faulty line, and in it 2 to 6; then the whole file's
-unfoldable pub answerOf : List ℕ → Answer
-answerOf s = first (refusedIf (tooLong s) Size ∷ (lineAnswers 1 (linesOf s) ++ wholeAnswers (linesOf s)))
+-- 1; then the firstRefusal faulty line, and in it 2 to 6; then the whole file's
+unfoldable pub answerOf : List ℕ → FileAnswer
+answerOf s = firstRefusal (refusedIf (tooLong s) Size ∷ (lineAnswers 1 (linesOf s) ++ wholeAnswers (linesOf s)))
 
-unfoldable pub checkedAs : List ℕ → Answer → Checked
+unfoldable pub checkedAs : List ℕ → FileAnswer → Checked
 checkedAs s Accepted = record { answer = Accepted; summary = summaryOf s }
 checkedAs s (Refused r) = record { answer = Refused r; summary = noSummary }
 

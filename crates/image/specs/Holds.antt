@@ -6,15 +6,15 @@ use Prim.Native.Nat.{ℕ, _+_, _≤_, _<_}
 use lib.ListN.{length, getD}
 use Rattle.counts.specs.Counts.{lineNumber, configId, lineCount}
 use Rattle.line.specs.declared.Line.{Line}
-use Rattle.line.specs.declared.Step.the-variants.{End, Took}
-use Rattle.line.specs.Reading.{stepAt}
+use Rattle.line.specs.declared.NextLine.the-variants.{End, Took}
+use Rattle.line.specs.Reading.{nextLine}
 use Rattle.image.specs.declared.Summary.{Summary}
 use Rattle.image.specs.Says.{isBurn}
 
 -- from this place, where line n starts, to its end the text holds these lines
 unfoldable pub Holds : List ℕ → ℕ → ℕ → List Line → Type 0
-Holds s place n [] = stepAt (lineNumber n) place s ≡ End
-Holds s place n (l ∷ ls) = (next : ℕ) × (stepAt (lineNumber n) place s ≡ Took l next) × Holds s next (n + 1) ls
+Holds s place n [] = nextLine (lineNumber n) place s ≡ End
+Holds s place n (l ∷ ls) = (next : ℕ) × (nextLine (lineNumber n) place s ≡ Took l next) × Holds s next (n + 1) ls
 
 -- the last of these lines is the burn, and no other
 unfoldable pub BurnLast : List Line → Type 0
@@ -26,7 +26,7 @@ BurnLast (l ∷ m ∷ ls) = (isBurn l ≡ false) × BurnLast (m ∷ ls)
 pub record Writes (s : List ℕ) (summary : Summary) : Type 0 where
   pub lines : List Line
   pub counted : summary .lines ≡ 4 + length lines
-  pub holds : Holds s (summary .first) 5 lines
+  pub holds : Holds s (summary .line5) 5 lines
   pub burns : BurnLast lines
 
 -- the counts of an accepted file

@@ -8,7 +8,7 @@ use Rattle.counts.specs.declared.Kind.{Kind}
 use Rattle.counts.specs.declared.Kind.the-variants.{Legacy, Production}
 use Rattle.counts.specs.Counts.{configId}
 use Rattle.line.specs.Lines.{linesOf}
-use Rattle.line.specs.Form.{Spells, LineForm}
+use Rattle.line.specs.LineForm.{Spells, LineForm}
 use Rattle.image.specs.Says.{word}
 use Rattle.image.specs.Check.{answerNumber, checkOf}
 use Rattle.image.specs.Parts.{parts}
@@ -92,7 +92,7 @@ pub record SummarySays (s : List ℕ) (m : Meets s) : Type 0 where
   pub lines : checkOf s .summary .lines ≡ length (m .values)
   pub configs : checkOf s .summary .configs ≡ m .meets .configs
   -- the text from there on has the lines behind the four of the header
-  pub first : linesOf (drop (checkOf s .summary .first) s) ≡ drop 4 (linesOf s)
+  pub line5 : linesOf (drop (checkOf s .summary .line5) s) ≡ drop 4 (linesOf s)
   pub ids : (N : ℕ) → N < m .meets .configs →
       let v = numbered (m .values) (m .meets .step * N + 12) in
       getD (checkOf s .summary .ids) N (configId 0) ≡ configId (dataIn 0 v % 16)

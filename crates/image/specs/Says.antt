@@ -87,10 +87,10 @@ summaryOf s =
       identity = identityOf (lineNo ls (lineNumber 1));
       lines = length ls;
       configs = fileConfigs ls;
-      first = placeOf 4 s;
+      line5 = placeOf 4 s;
       ids = eightOf (fileConfigs ls) (λ N. idOf (idLine ls N)) (configId 0);
       crcs = eightOf (fileConfigs ls) (λ N. crcOf (configCrcLine ls N)) 0;
     }
 
 unfoldable pub noSummary : Summary
-noSummary = record { kind = Legacy; identity = 0; lines = 0; configs = 0; first = 0; ids = replicate 8 (configId 0); crcs = replicate 8 0 }
+noSummary = record { kind = Legacy; identity = 0; lines = 0; configs = 0; line5 = 0; ids = replicate 8 (configId 0); crcs = replicate 8 0 }

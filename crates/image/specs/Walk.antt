@@ -10,12 +10,12 @@ use Rattle.counts.specs.declared.ConfigId.{ConfigId}
 use Rattle.counts.specs.declared.Kind.{Kind}
 use Rattle.counts.specs.Counts.{lineNumber, configNumber, configId, identifierLine, crcLine}
 use Rattle.line.specs.declared.Line.{Line}
-use Rattle.line.specs.declared.Step.{Step}
-use Rattle.line.specs.declared.Step.the-variants.{End, Took, Stopped}
+use Rattle.line.specs.declared.NextLine.{NextLine}
+use Rattle.line.specs.declared.NextLine.the-variants.{End, Took, Stopped}
 use Rattle.line.specs.declared.LineReading.{LineReading}
 use Rattle.line.specs.declared.LineReading.the-variants as reading
 use Rattle.line.specs.Lines.{placeOf}
-use Rattle.line.specs.Reading.{readLine, stepAt}
+use Rattle.line.specs.Reading.{readLine, nextLine}
 use Rattle.image.specs.declared.Facts.{Facts}
 use Rattle.image.specs.declared.Told.{Told}
 use Rattle.image.specs.declared.Told.the-variants.{Whole, Bad}
@@ -48,14 +48,14 @@ abbrev pub noLine : Line
 noLine = record { command = 0; count = 0; d0 = 0; d1 = 0; d2 = 0; d3 = 0; crc = 0 }
 
 -- the line that was taken
-unfoldable pub lineIn : Step → Line
+unfoldable pub lineIn : NextLine → Line
 lineIn End = noLine
 lineIn (Took l next) = l
 lineIn (Stopped fault) = noLine
 
 -- the line with a number, read at its place
 unfoldable pub lineAt : LineNumber → List ℕ → Line
-lineAt n s = lineIn (stepAt n (placeOf (n .0 - 1) s) s)
+lineAt n s = lineIn (nextLine n (placeOf (n .0 - 1) s) s)
 
 -- ---- the identifier and CRC lines
 

@@ -1,5 +1,5 @@
 // The document's numbers and lines of an answer (document 01, "Numbers for a file"), and the summary of a refused file.
-use crate::Answer;
+use crate::FileAnswer;
 use crate::Refusal;
 use crate::Summary;
 use counts::ConfigId;
@@ -45,14 +45,14 @@ impl Refusal {
     }
 }
 
-impl Answer {
+impl FileAnswer {
     // The document's number, and 0 for an accepted file.
     pub fn number(self) -> u8
         ensures { λ r. ⌜ r ≡ answerNumber self ⌝ }
     {
         match self {
-            Answer::Accepted => 0,
-            Answer::Refused(refusal) => refusal.number(),
+            FileAnswer::Accepted => 0,
+            FileAnswer::Refused(refusal) => refusal.number(),
         }
     }
 
@@ -61,8 +61,8 @@ impl Answer {
         ensures { λ r. ⌜ r ≡ answerLine self ⌝ }
     {
         match self {
-            Answer::Accepted => LineNumber(0),
-            Answer::Refused(refusal) => refusal.line(),
+            FileAnswer::Accepted => LineNumber(0),
+            FileAnswer::Refused(refusal) => refusal.line(),
         }
     }
 }
@@ -77,7 +77,7 @@ impl Summary {
             identity: 0,
             lines: 0,
             configs: 0,
-            first: 0,
+            line5: 0,
             ids: [ConfigId(0); 8],
             crcs: [0; 8],
         }

@@ -10,19 +10,19 @@ use counts::ConfigNumber;
 use counts::Kind;
 use counts::LineNumber;
 use line::Line;
-use line::Step;
+use line::NextLine;
 ghost use mathlib.Core.Path.{_≡_};
 ghost use Prim.Native.Nat.{_+_, _*_, _<_, _≤_};
 ghost use Rattle.pec.specs.Lent.{IsTable};
 ghost use Rattle.counts.specs.Counts.{stepOf};
 ghost use Rattle.line.specs.Lines.{placeOf};
 ghost use Rattle.line.specs.Digits.{IsDigits};
-ghost use Rattle.line.specs.Reading.{stepAt};
+ghost use Rattle.line.specs.Reading.{nextLine};
 ghost use Rattle.image.specs.Walk.{lineIn, offSpot, noSpots, spotsWith, spotsTo, sameIn};
 
 // The line that was taken, and a line of zeros where none was.
-fn line_in(step: Step) -> Line
-    ensures { λ r. ⌜ r ≡ lineIn step ⌝ }
+fn line_in(found: NextLine) -> Line
+    ensures { λ r. ⌜ r ≡ lineIn found ⌝ }
 {
     let none = Line {
         command: 0,
@@ -33,10 +33,10 @@ fn line_in(step: Step) -> Line
         d3: 0,
         crc: 0,
     };
-    match step {
-        Step::End => none,
-        Step::Took(line, _) => line,
-        Step::Stopped(_) => none,
+    match found {
+        NextLine::End => none,
+        NextLine::Took(line, _) => line,
+        NextLine::Stopped(_) => none,
     }
 }
 
@@ -49,7 +49,7 @@ pub(crate) fn line_at(
     n: LineNumber,
 ) -> Line
     requires { ⌜ IsDigits (now digits) × IsTable (now table) ⌝ }
-    ensures { λ r. ⌜ r ≡ lineIn (stepAt n at (now (s .entry))) ⌝ }
+    ensures { λ r. ⌜ r ≡ lineIn (nextLine n at (now (s .entry))) ⌝ }
 {
     line_in(line::read_at(digits, table, s, at, n))
 }

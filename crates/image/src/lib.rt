@@ -33,25 +33,25 @@ pub enum Refusal {
     Same,
 }
 
-pub enum Answer {
+pub enum FileAnswer {
     Accepted,
     Refused(Refusal),
 }
 
-// What an accepted file says. `first` is the place of line 5 in the text.
+// What an accepted file says. `line5` is the place of line 5 in the text.
 pub struct Summary {
     pub kind: Kind,
     pub identity: u32,
     pub lines: u32,
     pub configs: u8,
-    pub first: usize,
+    pub line5: usize,
     pub ids: [ConfigId; 8],
     pub crcs: [u32; 8],
 }
 
 // The summary holds arrays, so it stands beside the answer: of zeros where the file is refused.
 pub struct Checked {
-    pub answer: Answer,
+    pub answer: FileAnswer,
     pub summary: Summary,
 }
 
@@ -85,7 +85,7 @@ struct Marked {
 pub fn is_burn(l: Line) -> bool
     ensures { λ r. ⌜ r ≡ isBurn l ⌝ }
 {
-    if l.command == Bus::COMMAND {
+    if l.command == Bus::ACT {
         if l.d0 == 8 { l.d1 == 0 } else { false }
     } else {
         false

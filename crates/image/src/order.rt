@@ -1,7 +1,7 @@
 // The tests of the whole file in the order of document 01, "Numbers for a file".
-use crate::Answer;
 use crate::Checked;
 use crate::Facts;
+use crate::FileAnswer;
 use crate::Refusal;
 use crate::Spots;
 use crate::Summary;
@@ -26,7 +26,7 @@ pub(crate) fn refused_by(refusal: Refusal) -> Checked
     ensures { λ r. ⌜ r ≡ refusedBy refusal ⌝ }
 {
     Checked {
-        answer: Answer::Refused(refusal),
+        answer: FileAnswer::Refused(refusal),
         summary: Summary::none(),
     }
 }
@@ -54,13 +54,13 @@ fn on_spots(
     } else {
         let first_line = line_at(digits, table, s, 0, LineNumber(1));
         Checked {
-            answer: Answer::Accepted,
+            answer: FileAnswer::Accepted,
             summary: Summary {
                 kind: kind,
                 identity: identity_of(first_line),
                 lines: f.lines,
                 configs: k,
-                first: line::skip(s, 0, 4),
+                line5: line::skip(s, 0, 4),
                 ids: ids,
                 crcs: crcs,
             },

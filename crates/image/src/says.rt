@@ -44,5 +44,5 @@ pub(crate) fn crc_of(l: Line) -> u32
 pub(crate) fn is_c6(l: Line) -> bool
     ensures { λ r. ⌜ r ≡ isC6 l ⌝ }
 {
-    l.command == Bus::BURST
+    l.command == Bus::SEQUENTIAL
 }

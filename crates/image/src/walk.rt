@@ -5,7 +5,7 @@ use crate::Told;
 use crate::is_burn;
 use counts::LineNumber;
 use line::Line;
-use line::Step;
+use line::NextLine;
 ghost use mathlib.Core.Path.{_≡_};
 ghost use mathlib.Core.Bool.{cond, true};
 ghost use lib.ListN.{length};
@@ -47,16 +47,16 @@ pub(crate) fn facts_of(digits: &[u8; 256], table: &[u8; 256], s: &[u8]) -> Told
     let mut at: usize = 0;
     loop {
         let n = LineNumber(facts.lines + 1);
-        let step = line::read_at(digits, table, s, at, n);
-        match step {
-            Step::End => {
+        let found = line::read_at(digits, table, s, at, n);
+        match found {
+            NextLine::End => {
                 return Told::Whole(facts);
             }
-            Step::Took(line, next) => {
+            NextLine::Took(line, next) => {
                 facts = facts_with(facts, line);
                 at = next;
             }
-            Step::Stopped(fault) => {
+            NextLine::Stopped(fault) => {
                 return Told::Bad(Refusal::Line(n, fault));
             }
         }

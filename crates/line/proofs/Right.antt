@@ -15,12 +15,12 @@ use Rattle.pec.proofs.Entries.{follows, entry-follows}
 use Rattle.counts.specs.declared.LineNumber.{LineNumber}
 use Rattle.line.specs.Lines.{crLf, linesOf, lineLen, lineSkip}
 use Rattle.line.specs.Digits.{digitVal, isDigit, allDigits, digitRun, valuesOf, digitBy, IsDigits}
-use Rattle.line.specs.Reading.{coveredOf, crcRight, readValues, readDigits, readLine, stepBy, stepOf, stepAt}
-use Rattle.line.specs.Lent.{endingOf, runAt, byEnding, lentStep}
+use Rattle.line.specs.Reading.{coveredOf, crcRight, readValues, readDigits, readLine, nextBy, nextOf, nextLine}
+use Rattle.line.specs.Lent.{endingOf, runAt, byEnding, lentNext}
 use Rattle.line.specs.declared.Ending.{Ending}
 use Rattle.line.specs.declared.Ending.the-variants.{Other, Next}
-use Rattle.line.specs.declared.Step.{Step}
-use Rattle.line.specs.declared.Step.the-variants.{End}
+use Rattle.line.specs.declared.NextLine.{NextLine}
+use Rattle.line.specs.declared.NextLine.the-variants.{End}
 use Rattle.line.proofs.Basics.{split}
 use Rattle.line.proofs.Parts.{run-digits, values-lt, slice-get, slice-past}
 use Rattle.line.proofs.Cuts.{crlf-lf, lines-at}
@@ -95,14 +95,14 @@ unended (b ∷ s) e p =
 -- ---- reading by lent tables, where the run of digits ends at e
 pub lent-here : (digits table : List ℕ) (n : LineNumber) (at : ℕ) (s : List ℕ) → at < length s → (e : ℕ) →
     e ≡ at + runAt digits table n at s → (x : Ending) → endingOf e (drop e s) ≡ x →
-    lentStep digits table n at s ≡ byEnding digits table n (take (e - at) (drop at s)) x
-unfolding lentStep
+    lentNext digits table n at s ≡ byEnding digits table n (take (e - at) (drop at s)) x
+unfolding lentNext
 lent-here digits table n at s h e p x q =
     let d : e - at ≡ runAt digits table n at s = omega arith in
     rw (lt-ltb at (length s) h, d, ← p, q)
 
-pub lent-past : (digits table : List ℕ) (n : LineNumber) (at : ℕ) (s : List ℕ) → length s ≤ at → lentStep digits table n at s ≡ End
-unfolding lentStep
+pub lent-past : (digits table : List ℕ) (n : LineNumber) (at : ℕ) (s : List ℕ) → length s ≤ at → lentNext digits table n at s ≡ End
+unfolding lentNext
 lent-past digits table n at s h = rw (le-ltb at (length s) h)
 
 module _ {digits table : List ℕ} (digitRule : IsDigits digits) (rule : IsTable table) where
@@ -123,21 +123,21 @@ module _ {digits table : List ℕ} (digitRule : IsDigits digits) (rule : IsTable
   module _ (n : LineNumber) (at : ℕ) where
     -- by what follows the run of digits
     here : (t : List ℕ) (x : Ending) → endingOf (at + run t) (drop (run t) t) ≡ x →
-        byEnding digits table n (take (run t) t) x ≡ stepBy (readLine n (take (lineLen t) t)) (at + lineSkip t)
-    unfolding byEnding readLine stepBy
+        byEnding digits table n (take (run t) t) x ≡ nextBy (readLine n (take (lineLen t) t)) (at + lineSkip t)
+    unfolding byEnding readLine nextBy
     here t Other p = rw (unended t (at + run t) p)
     here t (Next next) p =
         let q = ended t (at + run t) next p in
         let k : next ≡ at + lineSkip t = omega (arith, q .1) in
         rw (k, q .0, run-digits digitVal t, read-right n (take (run t) t))
 
-    lent-right : (s : List ℕ) → lentStep digits table n at s ≡ stepAt n at s
-    unfolding lentStep stepOf linesOf
+    lent-right : (s : List ℕ) → lentNext digits table n at s ≡ nextLine n at s
+    unfolding lentNext nextOf linesOf
     lent-right s =
         split (ltb at (length s))
         (λ h. rw (h, digit-right, lines-at s at (ltb-true at (length s) h), ← drop-drop (run (drop at s)) at s) (here (drop at s) _ refl))
         (λ h. rw (h, drop-of-length-le s (ltb-false at (length s) h)))
 
     -- what a call by these tables read
-    pub read-is : (s : List ℕ) {r : Step} → r ≡ lentStep digits table n at s → r ≡ stepAt n at s
+    pub read-is : (s : List ℕ) {r : NextLine} → r ≡ lentNext digits table n at s → r ≡ nextLine n at s
     read-is s p = p ∙ lent-right s

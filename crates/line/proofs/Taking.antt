@@ -10,11 +10,11 @@ use borrow.Author.Tests.{eqb-true, eq-eqb, lt-leb}
 use Rattle.pec.specs.Lent.{runWith}
 use Rattle.counts.specs.declared.LineNumber.{LineNumber}
 use Rattle.line.specs.Digits.{isDigit, allDigits, digitRun, digitBy, valuesOf}
-use Rattle.line.specs.Reading.{badPairs, bodyOk, formOk, lengthRight, crcRight, formRight, lineOf, readValues, readDigits, stepBy}
-use Rattle.line.specs.Lent.{endingOf, readBy, byEnding, lentStep}
+use Rattle.line.specs.Reading.{badPairs, bodyOk, formOk, lengthRight, crcRight, formRight, lineOf, readValues, readDigits, nextBy}
+use Rattle.line.specs.Lent.{endingOf, readBy, byEnding, lentNext}
 use Rattle.line.specs.Quick.{headed, endsRun}
 use Rattle.line.specs.declared.Ending.the-variants.{Other, Next}
-use Rattle.line.specs.declared.Step.the-variants.{Took}
+use Rattle.line.specs.declared.NextLine.the-variants.{Took}
 use Rattle.line.proofs.Basics.{split, and-true, drop-at1}
 use Rattle.line.proofs.Parts.{values-length}
 use Rattle.line.proofs.Right.{lent-here}
@@ -48,7 +48,7 @@ ends digit at e s next h k p =
 
 pub usual-here : (digits table : List ℕ) (n : LineNumber) (at e : ℕ) (s : List ℕ) (next : ℕ) → at ≤ e → e < length s →
     endsRun (digitBy digits) at e s ≡ Next next →
-    lentStep digits table n at s ≡ stepBy (readBy digits table n (take (e - at) (drop at s))) next
+    lentNext digits table n at s ≡ nextBy (readBy digits table n (take (e - at) (drop at s))) next
 unfolding byEnding
 usual-here digits table n at e s next h k p =
     let r = ends (digitBy digits) at e s next h k p in
@@ -81,9 +81,9 @@ module _ (digits table : List ℕ) (n : LineNumber) (late : 4 < n .0) (t : List 
 
   pub two-taken : length t ≡ 14 → headed v 5 ≡ true → bodyOk command 2 ≡ true → command ≡ getD v 3 0 → d0 ≡ getD v 4 0 → d1 ≡ getD v 5 0 →
       crc ≡ getD v 6 0 → crc ≡ runWith table 0 (0xC0 ∷ command ∷ d0 ∷ d1 ∷ []) →
-      stepBy (readBy digits table n t) next
+      nextBy (readBy digits table n t) next
       ≡ Took (record { command = command; count = 2; d0 = d0; d1 = d1; d2 = 0; d3 = 0; crc = crc }) next
-  unfolding readDigits readValues badPairs lengthRight crcRight formRight formOk lineOf stepBy valuesFrom
+  unfolding readDigits readValues badPairs lengthRight crcRight formRight formOk lineOf nextBy valuesFrom
   two-taken size h body pc p0 p1 pr code =
       let a = headed-is v 5 h in
       let all : v ≡ 0 ∷ 5 ∷ 0xC0 ∷ command ∷ d0 ∷ d1 ∷ crc ∷ [] =
@@ -93,9 +93,9 @@ module _ (digits table : List ℕ) (n : LineNumber) (late : 4 < n .0) (t : List 
   pub four-taken : (d2 d3 : ℕ) → length t ≡ 18 → headed v 7 ≡ true → bodyOk command 4 ≡ true → command ≡ getD v 3 0 → d0 ≡ getD v 4 0 →
       d1 ≡ getD v 5 0 → d2 ≡ getD v 6 0 → d3 ≡ getD v 7 0 → crc ≡ getD v 8 0 →
       crc ≡ runWith table 0 (0xC0 ∷ command ∷ d0 ∷ d1 ∷ d2 ∷ d3 ∷ []) →
-      stepBy (readBy digits table n t) next
+      nextBy (readBy digits table n t) next
       ≡ Took (record { command = command; count = 4; d0 = d0; d1 = d1; d2 = d2; d3 = d3; crc = crc }) next
-  unfolding readDigits readValues badPairs lengthRight crcRight formRight formOk lineOf stepBy valuesFrom
+  unfolding readDigits readValues badPairs lengthRight crcRight formRight formOk lineOf nextBy valuesFrom
   four-taken d2 d3 size h body pc p0 p1 p2 p3 pr code =
       let a = headed-is v 7 h in
       let all : v ≡ 0 ∷ 7 ∷ 0xC0 ∷ command ∷ d0 ∷ d1 ∷ d2 ∷ d3 ∷ crc ∷ [] =

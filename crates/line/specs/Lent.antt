@@ -9,13 +9,13 @@ use Rattle.pec.specs.Lent.{runWith}
 use Rattle.counts.specs.declared.LineNumber.{LineNumber}
 use Rattle.line.specs.Lines.{crLf}
 use Rattle.line.specs.Digits.{digitBy, digitRun}
-use Rattle.line.specs.Reading.{readDigits, stepBy}
+use Rattle.line.specs.Reading.{readDigits, nextBy}
 use Rattle.line.specs.declared.Fault.the-variants.{Char}
 use Rattle.line.specs.declared.LineReading.{LineReading}
 use Rattle.line.specs.declared.Ending.{Ending}
 use Rattle.line.specs.declared.Ending.the-variants.{Other, Next}
-use Rattle.line.specs.declared.Step.{Step}
-use Rattle.line.specs.declared.Step.the-variants.{End, Stopped}
+use Rattle.line.specs.declared.NextLine.{NextLine}
+use Rattle.line.specs.declared.NextLine.the-variants.{End, Stopped}
 
 -- what stands at the place e: the end of a line, with the place behind it, or something else
 unfoldable pub endingOf : ℕ → List ℕ → Ending
@@ -26,15 +26,15 @@ module _ (digits table : List ℕ) (n : LineNumber) where
   abbrev pub readBy : List ℕ → LineReading
   readBy t = readDigits (digitBy digits) (runWith table 0) n t
 
-  unfoldable pub byEnding : List ℕ → Ending → Step
+  unfoldable pub byEnding : List ℕ → Ending → NextLine
   byEnding t Other = Stopped Char
-  byEnding t (Next next) = stepBy (readBy t) next
+  byEnding t (Next next) = nextBy (readBy t) next
 
   abbrev pub runAt : ℕ → List ℕ → ℕ
   runAt at s = digitRun (digitBy digits) (drop at s)
 
-  unfoldable pub lentStep : ℕ → List ℕ → Step
-  lentStep at s =
+  unfoldable pub lentNext : ℕ → List ℕ → NextLine
+  lentNext at s =
       cond (ltb at (length s))
       (byEnding (take (runAt at s) (drop at s)) (endingOf (at + runAt at s) (drop (at + runAt at s) s)))
       End

@@ -2,5 +2,5 @@ pub mod Lines
 pub mod Digits
 pub mod Reading
 pub mod Lent
-pub mod Form
+pub mod LineForm
 pub mod Quick

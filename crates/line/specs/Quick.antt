@@ -12,8 +12,8 @@ use Rattle.line.specs.declared.Ending.{Ending}
 use Rattle.line.specs.declared.Ending.the-variants.{Other}
 use Rattle.line.specs.declared.Taken.{Taken}
 use Rattle.line.specs.declared.Taken.the-variants.{Is, Not}
-use Rattle.line.specs.declared.Step.{Step}
-use Rattle.line.specs.declared.Step.the-variants.{Took}
+use Rattle.line.specs.declared.NextLine.{NextLine}
+use Rattle.line.specs.declared.NextLine.the-variants.{Took}
 
 -- tag 00, this length, address C0
 unfoldable pub headed : List ℕ → ℕ → Bool
@@ -27,7 +27,7 @@ endsRun digit at e s =
     Other
 
 -- a line is taken only where the reading is that line
-abbrev pub Takes : Step → Taken → Type 0
+abbrev pub Takes : NextLine → Taken → Type 0
 Takes step (Is l next) = step ≡ Took l next
 Takes step Not = Unit {0}
 

@@ -15,8 +15,8 @@ use Rattle.line.specs.declared.Fault.{Fault}
 use Rattle.line.specs.declared.Fault.the-variants.{Char, Pairs, Length, Crc, Form}
 use Rattle.line.specs.declared.LineReading.{LineReading}
 use Rattle.line.specs.declared.LineReading.the-variants.{Good, Refused}
-use Rattle.line.specs.declared.Step.{Step}
-use Rattle.line.specs.declared.Step.the-variants.{End, Took, Stopped}
+use Rattle.line.specs.declared.NextLine.{NextLine}
+use Rattle.line.specs.declared.NextLine.the-variants.{End, Took, Stopped}
 
 -- the document's numbers
 abbrev pub faultNumber : Fault → ℕ
@@ -106,15 +106,15 @@ unfoldable pub readLine : LineNumber → List ℕ → LineReading
 readLine n t = cond (allDigits digitVal t) (readDigits digitVal pec n t) (Refused Char)
 
 -- with the place behind the line
-unfoldable pub stepBy : LineReading → ℕ → Step
-stepBy (Good l) next = Took l next
-stepBy (Refused f) next = Stopped f
+unfoldable pub nextBy : LineReading → ℕ → NextLine
+nextBy (Good l) next = Took l next
+nextBy (Refused f) next = Stopped f
 
 -- the first of some lines, if there is one
-unfoldable pub stepOf : LineNumber → ℕ → List (List ℕ) → Step
-stepOf n next [] = End
-stepOf n next (l ∷ ls) = stepBy (readLine n l) next
+unfoldable pub nextOf : LineNumber → ℕ → List (List ℕ) → NextLine
+nextOf n next [] = End
+nextOf n next (l ∷ ls) = nextBy (readLine n l) next
 
 -- the reading of the line that starts at a place
-abbrev pub stepAt : LineNumber → ℕ → List ℕ → Step
-stepAt n at s = stepOf n (at + lineSkip (drop at s)) (linesOf (drop at s))
+abbrev pub nextLine : LineNumber → ℕ → List ℕ → NextLine
+nextLine n at s = nextOf n (at + lineSkip (drop at s)) (linesOf (drop at s))

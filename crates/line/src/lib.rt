@@ -26,8 +26,8 @@ ghost use Rattle.pec.specs.Pec.{pec};
 ghost use Rattle.pec.specs.Lent.{runWith};
 ghost use Rattle.line.specs.Lines.{placeOf};
 ghost use Rattle.line.specs.Digits.{IsDigits, digitBy, valuesOf};
-ghost use Rattle.line.specs.Reading.{faultNumber, readValues, readDigits, stepBy, stepAt};
-ghost use Rattle.line.specs.Lent.{lentStep};
+ghost use Rattle.line.specs.Reading.{faultNumber, readValues, readDigits, nextBy, nextLine};
+ghost use Rattle.line.specs.Lent.{lentNext};
 
 // What a good line says: its command, how many data bytes it has, the first four of them (zeros where there are fewer), its CRC.
 pub struct Line {
@@ -56,7 +56,7 @@ pub enum LineReading {
 }
 
 // Reading at a place: nothing is left, a good line with the place behind it, or a refusal.
-pub enum Step {
+pub enum NextLine {
     End,
     Took(Line, usize),
     Stopped(Fault),
@@ -132,46 +132,52 @@ fn read_digits(digits: &[u8; 256], table: &[u8; 256], t: &[u8], n: LineNumber) -
     }
 }
 
-fn step_by(reading: LineReading, next: usize) -> Step
-    ensures { λ r. ⌜ r ≡ stepBy reading next ⌝ }
+fn next_by(reading: LineReading, next: usize) -> NextLine
+    ensures { λ r. ⌜ r ≡ nextBy reading next ⌝ }
 {
     match reading {
-        LineReading::Good(line) => Step::Took(line, next),
-        LineReading::Refused(fault) => Step::Stopped(fault),
+        LineReading::Good(line) => NextLine::Took(line, next),
+        LineReading::Refused(fault) => NextLine::Stopped(fault),
     }
 }
 
 // The reading by a search for the end of the digits.
-fn searched(digits: &[u8; 256], table: &[u8; 256], s: &[u8], at: usize, n: LineNumber) -> Step
+fn searched(digits: &[u8; 256], table: &[u8; 256], s: &[u8], at: usize, n: LineNumber) -> NextLine
     requires { ⌜ at < length (now s) ⌝ }
-    ensures { λ r. ⌜ r ≡ lentStep (now (digits .entry)) (now (table .entry)) n at (now (s .entry)) ⌝ }
+    ensures { λ r. ⌜ r ≡ lentNext (now (digits .entry)) (now (table .entry)) n at (now (s .entry)) ⌝ }
 {
     let end = run_end(digits, s, at);
     let ending = end_at(s, end);
     match ending {
-        Ending::Other => Step::Stopped(Fault::Char),
-        Ending::Next(next) => step_by(read_digits(digits, table, &s[at..end], n), next),
+        Ending::Other => NextLine::Stopped(Fault::Char),
+        Ending::Next(next) => next_by(read_digits(digits, table, &s[at..end], n), next),
     }
 }
 
 // The reading of the line that starts at a place, if one does.
-pub fn read_at(digits: &[u8; 256], table: &[u8; 256], s: &[u8], at: usize, n: LineNumber) -> Step
-    ensures { λ r. ⌜ r ≡ lentStep (now (digits .entry)) (now (table .entry)) n at (now (s .entry)) ⌝ }
+pub fn read_at(
+    digits: &[u8; 256],
+    table: &[u8; 256],
+    s: &[u8],
+    at: usize,
+    n: LineNumber,
+) -> NextLine
+    ensures { λ r. ⌜ r ≡ lentNext (now (digits .entry)) (now (table .entry)) n at (now (s .entry)) ⌝ }
 {
     if at < s.len() {
         let taken = usual_at(digits, table, s, at, n);
         match taken {
-            Taken::Is(line, next) => Step::Took(line, next),
+            Taken::Is(line, next) => NextLine::Took(line, next),
             Taken::Not => searched(digits, table, s, at, n),
         }
     } else {
-        Step::End
+        NextLine::End
     }
 }
 
 // The same for one line alone: the tables are made for it.
-pub fn read_one(s: &[u8], at: usize, n: LineNumber) -> Step
-    ensures { λ r. ⌜ r ≡ stepAt n at (now (s .entry)) ⌝ }
+pub fn read_one(s: &[u8], at: usize, n: LineNumber) -> NextLine
+    ensures { λ r. ⌜ r ≡ nextLine n at (now (s .entry)) ⌝ }
 {
     let digits = digits();
     let table = pec::table();

@@ -79,11 +79,11 @@ pub(crate) fn body_ok(command: u8, count: usize) -> bool
 {
     if command == Bus::POINT {
         count == 2
-    } else if command == Bus::COMMAND {
+    } else if command == Bus::ACT {
         count == 2
     } else if command == Bus::DATA {
         count == 4
-    } else if command == Bus::BURST {
+    } else if command == Bus::SEQUENTIAL {
         count == 4
     } else {
         false

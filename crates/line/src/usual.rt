@@ -15,8 +15,8 @@ ghost use lib.ListN.{length};
 ghost use Prim.Native.Nat.{_+_, _<_, _≤_};
 ghost use Rattle.pec.specs.Lent.{runWith};
 ghost use Rattle.line.specs.Digits.{digitBy, allDigits, valuesOf};
-ghost use Rattle.line.specs.Lent.{readBy, lentStep};
-ghost use Rattle.line.specs.Reading.{stepBy};
+ghost use Rattle.line.specs.Lent.{readBy, lentNext};
+ghost use Rattle.line.specs.Reading.{nextBy};
 ghost use Rattle.line.specs.Quick.{headed, endsRun, Takes};
 
 fn all_digits(digits: &[u8; 256], t: &[u8]) -> bool
@@ -86,7 +86,7 @@ fn code_of_four(table: &[u8; 256], command: u8, d0: u8, d1: u8, d2: u8, d3: u8) 
 // The line of two data bytes.
 fn two_in(digits: &[u8; 256], table: &[u8; 256], t: &[u8], n: LineNumber, next: usize) -> Taken
     requires { ⌜ (length (now t) ≡ 14) × (4 < n .0) ⌝ }
-    ensures { λ r. ⌜ Takes (stepBy (readBy (now (digits .entry)) (now (table .entry)) n (now (t .entry))) next) r ⌝ }
+    ensures { λ r. ⌜ Takes (nextBy (readBy (now (digits .entry)) (now (table .entry)) n (now (t .entry))) next) r ⌝ }
 {
     let command = value_at(digits, t, 3);
     let d0 = value_at(digits, t, 4);
@@ -114,7 +114,7 @@ fn two_in(digits: &[u8; 256], table: &[u8; 256], t: &[u8], n: LineNumber, next: 
 // The line of four.
 fn four_in(digits: &[u8; 256], table: &[u8; 256], t: &[u8], n: LineNumber, next: usize) -> Taken
     requires { ⌜ (length (now t) ≡ 18) × (4 < n .0) ⌝ }
-    ensures { λ r. ⌜ Takes (stepBy (readBy (now (digits .entry)) (now (table .entry)) n (now (t .entry))) next) r ⌝ }
+    ensures { λ r. ⌜ Takes (nextBy (readBy (now (digits .entry)) (now (table .entry)) n (now (t .entry))) next) r ⌝ }
 {
     let command = value_at(digits, t, 3);
     let d0 = value_at(digits, t, 4);
@@ -144,7 +144,7 @@ fn four_in(digits: &[u8; 256], table: &[u8; 256], t: &[u8], n: LineNumber, next:
 // A line of 14 digits.
 fn short_at(digits: &[u8; 256], table: &[u8; 256], s: &[u8], at: usize, n: LineNumber) -> Taken
     requires { ⌜ (at + 14 < length (now s)) × (4 < n .0) ⌝ }
-    ensures { λ r. ⌜ Takes (lentStep (now (digits .entry)) (now (table .entry)) n at (now (s .entry))) r ⌝ }
+    ensures { λ r. ⌜ Takes (lentNext (now (digits .entry)) (now (table .entry)) n at (now (s .entry))) r ⌝ }
 {
     let e = at + 14;
     let ending = ends_run(digits, s, at, e);
@@ -157,7 +157,7 @@ fn short_at(digits: &[u8; 256], table: &[u8; 256], s: &[u8], at: usize, n: LineN
 // A line of 18.
 fn long_at(digits: &[u8; 256], table: &[u8; 256], s: &[u8], at: usize, n: LineNumber) -> Taken
     requires { ⌜ (at + 18 < length (now s)) × (4 < n .0) ⌝ }
-    ensures { λ r. ⌜ Takes (lentStep (now (digits .entry)) (now (table .entry)) n at (now (s .entry))) r ⌝ }
+    ensures { λ r. ⌜ Takes (lentNext (now (digits .entry)) (now (table .entry)) n at (now (s .entry))) r ⌝ }
 {
     let e = at + 18;
     let ending = ends_run(digits, s, at, e);
@@ -176,7 +176,7 @@ pub(crate) fn usual_at(
     n: LineNumber,
 ) -> Taken
     requires { ⌜ at < length (now s) ⌝ }
-    ensures { λ r. ⌜ Takes (lentStep (now (digits .entry)) (now (table .entry)) n at (now (s .entry))) r ⌝ }
+    ensures { λ r. ⌜ Takes (lentNext (now (digits .entry)) (now (table .entry)) n at (now (s .entry))) r ⌝ }
 {
     if s.len() - at < 19 {
         return Taken::Not;

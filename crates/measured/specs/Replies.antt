@@ -9,7 +9,7 @@ use Rattle.image.specs.Check.{checkOf}
 use Rattle.bus.specs.Bus.{noRequest}
 use Rattle.session.specs.declared.Session.{Session}
 use Rattle.session.specs.declared.Stage.the-variants.{Open}
-use Rattle.session.specs.declared.Step.the-variants.{LineOut}
+use Rattle.session.specs.declared.Awaited.the-variants.{LineOut}
 use Rattle.session.specs.Reply.{replyOf}
 
 unfoldable pub lineFiveOut : List ℕ → Session
@@ -22,7 +22,7 @@ lineFiveOut text =
       position =
           record {
             line = lineNumber 5;
-            place = checkOf text .summary .first + placeOf 1 (drop (checkOf text .summary .first) text);
+            place = checkOf text .summary .line5 + placeOf 1 (drop (checkOf text .summary .line5) text);
             config = configNumber 0;
             polls = 0;
             counter = 0;

@@ -2,11 +2,11 @@
 use bus::Bus;
 use counts::ConfigNumber;
 use counts::LineNumber;
+use session::Awaited;
 use session::Position;
 use session::Session;
 use session::Settings;
 use session::Stage;
-use session::Step;
 ghost use mathlib.Core.Path.{_≡_};
 ghost use Rattle.pec.specs.Lent.{runWith};
 ghost use Rattle.measured.specs.Replies.{lineFiveOut, sentAfter};
@@ -25,7 +25,7 @@ fn line_5_out(text: &[u8]) -> Session
 {
     let checked = image::check(text);
     let summary = checked.summary;
-    let first = summary.first;
+    let first = summary.line5;
     Session {
         settings: Settings {
             wanted: false,
@@ -33,7 +33,7 @@ fn line_5_out(text: &[u8]) -> Session
             restore: 0xF2,
         },
         file: summary,
-        stage: Stage::Open(Step::LineOut),
+        stage: Stage::Open(Awaited::LineOut),
         hand: Bus::none(),
         position: Position {
             line: LineNumber(5),

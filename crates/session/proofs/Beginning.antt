@@ -5,8 +5,8 @@ use mathlib.Core.Bool.{true, false}
 use mathlib.Core.List.{List}
 use Rattle.line.proofs.Basics.{split}
 use Rattle.image.specs.declared.Summary.{Summary}
-use Rattle.image.specs.declared.Answer.{Answer}
-use Rattle.image.specs.declared.Answer.the-variants.{Accepted, Refused}
+use Rattle.image.specs.declared.FileAnswer.{FileAnswer}
+use Rattle.image.specs.declared.FileAnswer.the-variants.{Accepted, Refused}
 use Rattle.image.specs.Check.{checkOf}
 use Rattle.bus.specs.declared.Request.{Request}
 use Rattle.bus.specs.Bus.{pointTo}
@@ -16,8 +16,8 @@ use Rattle.session.specs.declared.Settings.{Settings}
 use Rattle.session.specs.declared.Session.{Session}
 use Rattle.session.specs.declared.Handed.{Handed}
 use Rattle.session.specs.declared.Answer.the-variants.{Next}
-use Rattle.session.specs.declared.Step.{Step}
-use Rattle.session.specs.declared.Step.the-variants.{TrimAt, CounterAt}
+use Rattle.session.specs.declared.Awaited.{Awaited}
+use Rattle.session.specs.declared.Awaited.the-variants.{CaptureAt, CounterAt}
 use Rattle.session.specs.Sound.{allowedOf}
 use Rattle.session.specs.Moves.{withStage, withSent, putOf, overOf}
 use Rattle.session.specs.Begin.{freshOf, firstOf, startOf, refusedOf, answeredOf, beginOf}
@@ -27,16 +27,16 @@ use Rattle.session.proofs.Laws.{begin-answered, begin-not}
 use Rattle.session.proofs.Every.{by}
 
 module _ (s : Session) where
-  put-begun : (g : Step) (q : Request) → s .sent ≡ 0 → s .burned ≡ false → Begun (putOf s g q)
+  put-begun : (g : Awaited) (q : Request) → s .sent ≡ 0 → s .burned ≡ false → Begun (putOf s g q)
   unfolding putOf withSent withStage
   put-begun g q e b =
       record { refused = λ v f. next-over f; accepted = λ f. (ap (λ (n : ℕ). n + 1) e, refl, b); never = λ f. next-bad f }
 
   -- of either first request
-  of-first : (Q : Handed → Type 0) → ((g : Step) (q : Request) → Q (putOf s g q)) → Q (firstOf s)
+  of-first : (Q : Handed → Type 0) → ((g : Awaited) (q : Request) → Q (putOf s g q)) → Q (firstOf s)
   unfolding firstOf
   of-first Q f =
-      by Q (s .settings .wanted) (putOf s TrimAt (pointTo 0xA2 0x00)) (putOf s CounterAt (pointTo 0x35 0x00)) (λ e. f TrimAt (pointTo 0xA2 0x00))
+      by Q (s .settings .wanted) (putOf s CaptureAt (pointTo 0xA2 0x00)) (putOf s CounterAt (pointTo 0x35 0x00)) (λ e. f CaptureAt (pointTo 0xA2 0x00))
       (λ e. f CounterAt (pointTo 0x35 0x00))
 
 module _ (S : Settings) where
@@ -53,7 +53,7 @@ module _ (S : Settings) where
   unfolding refusedOf overOf freshOf
   refused-begun v = record { refused = λ w e. (cc, refl, refl, refl); accepted = λ e. next-over (sym e); never = λ e. over-bad e }
 
-  answered-begun : (f : Summary) (a : Answer) → Begun (answeredOf S f a)
+  answered-begun : (f : Summary) (a : FileAnswer) → Begun (answeredOf S f a)
   unfolding answeredOf
   answered-begun f Accepted = start-begun f
   answered-begun f (Refused r) = refused-begun (File r)

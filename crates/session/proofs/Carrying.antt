@@ -4,14 +4,14 @@ use mathlib.Core.Path.{refl, sym, ap}
 use mathlib.Core.Bool.{Bool, true, false, cond}
 use mathlib.Core.List.{List}
 use Rattle.bus.specs.declared.Request.{Request}
-use Rattle.bus.specs.declared.Form.{Form}
-use Rattle.bus.specs.declared.Form.the-variants.{Unanswered, Misshapen, Miscoded, Good}
-use Rattle.bus.specs.Form.{formOf}
+use Rattle.bus.specs.declared.ReplyForm.{ReplyForm}
+use Rattle.bus.specs.declared.ReplyForm.the-variants.{Unanswered, Misshapen, Miscoded, Good}
+use Rattle.bus.specs.ReplyForm.{formOf}
 use Rattle.guide.specs.declared.Verdict.{Verdict}
 use Rattle.session.specs.declared.Session.{Session}
 use Rattle.session.specs.declared.Stage.{Stage}
 use Rattle.session.specs.declared.Stage.the-variants.{Open, Ended}
-use Rattle.session.specs.declared.Step.{Step}
+use Rattle.session.specs.declared.Awaited.{Awaited}
 use Rattle.session.specs.Moves.{withStage, withSent, putOf, endOf, badOf, overOf}
 use Rattle.session.specs.Sound.{soundOf}
 use Rattle.session.specs.Reply.{repliedOf, stageOf, replyOf}
@@ -20,7 +20,7 @@ use Rattle.session.proofs.Cases.{next-bad, next-over}
 use Rattle.session.proofs.Every.{Kept, step-every}
 
 module _ (s : Session) where
-  put-carried : (g : Step) (t : Session) → Kept s t → (next : Step) (q : Request) → Carried s (putOf t next q)
+  put-carried : (g : Awaited) (t : Session) → Kept s t → (next : Awaited) (q : Request) → Carried s (putOf t next q)
   unfolding putOf withSent withStage
   put-carried g t k next q =
       record {
@@ -31,7 +31,7 @@ module _ (s : Session) where
         file = k .file;
       }
 
-  end-carried : (g : Step) (v : Verdict) → Carried s (endOf s v)
+  end-carried : (g : Awaited) (v : Verdict) → Carried s (endOf s v)
   unfolding endOf withStage
   end-carried g v = record { counts = λ e. next-over (sym e); rests = λ f. (refl, refl); burned = λ e. e; settings = refl; file = refl }
 
@@ -44,7 +44,7 @@ module _ (s : Session) where
   bad-carried = record { counts = λ e. next-bad (sym e); rests = λ f. (refl, refl); burned = λ e. e; settings = refl; file = refl }
 
 module _ (text : List ℕ) (s : Session) (kind : ℕ) (bs : List ℕ) where
-  replied-carried : (g : Step) (f : Form) → Carried s (repliedOf text s g f)
+  replied-carried : (g : Awaited) (f : ReplyForm) → Carried s (repliedOf text s g f)
   unfolding repliedOf
   replied-carried g Unanswered = end-carried s g _
   replied-carried g Misshapen = end-carried s g _
@@ -52,7 +52,7 @@ module _ (text : List ℕ) (s : Session) (kind : ℕ) (bs : List ℕ) where
   replied-carried g (Good word) =
       step-every text s word (λ h. Carried s) (put-carried s) (end-carried s) (λ h n d u. bad-carried s) g
 
-  open-carried : (g : Step) (b : Bool) → Carried s (cond b (repliedOf text s g (formOf (s .hand) kind bs)) (badOf s))
+  open-carried : (g : Awaited) (b : Bool) → Carried s (cond b (repliedOf text s g (formOf (s .hand) kind bs)) (badOf s))
   open-carried g true = replied-carried g _
   open-carried g false = bad-carried s
 

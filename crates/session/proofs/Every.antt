@@ -11,9 +11,9 @@ use Rattle.counts.specs.declared.LineNumber.{LineNumber}
 use Rattle.counts.specs.declared.ConfigNumber.{ConfigNumber}
 use Rattle.counts.specs.Counts.{lineNumber, configNumber}
 use Rattle.line.specs.declared.Line.{Line}
-use Rattle.line.specs.declared.Step as line
-use Rattle.line.specs.declared.Step.the-variants.{End, Took, Stopped}
-use Rattle.line.specs.Reading.{stepAt}
+use Rattle.line.specs.declared.NextLine as line
+use Rattle.line.specs.declared.NextLine.the-variants.{End, Took, Stopped}
+use Rattle.line.specs.Reading.{nextLine}
 use Rattle.image.specs.Says.{isBurn}
 use Rattle.bus.specs.Bus.{pointTo}
 use Rattle.bus.specs.declared.Request.{Request}
@@ -29,12 +29,12 @@ use Rattle.guide.proofs.Judging.{judged-exactly}
 use Rattle.session.specs.declared.Position.{Position}
 use Rattle.session.specs.declared.Session.{Session}
 use Rattle.session.specs.declared.Handed.{Handed}
-use Rattle.session.specs.declared.Step.{Step}
-use Rattle.session.specs.declared.Step.the-variants.{TrimAt, TrimRead, TrimWrite, TrimDo, CounterAt, CounterRead, IdentityRead, FlagAt, FlagRead, RevisionRead, LineOut, StatusAt, StatusRead, BanksAt, BanksRead, Restore, CrcAt, CrcRead}
+use Rattle.session.specs.declared.Awaited.{Awaited}
+use Rattle.session.specs.declared.Awaited.the-variants.{CaptureAt, CaptureRead, CaptureWrite, CaptureApply, CounterAt, CounterRead, IdentityRead, FlagAt, FlagRead, RevisionRead, LineOut, StatusAt, StatusRead, BanksAt, BanksRead, Restore, CrcAt, CrcRead}
 use Rattle.session.specs.Moves.{withPosition, withBurned, putOf, endOf, badOf}
 use Rattle.session.specs.Lines.{duePutOf, tookOf, dueOf, putLineOf, lineDoneOf}
 use Rattle.session.specs.Stages.{counterDoneOf, identityDoneOf, flagDoneOf, fitDoneOf, fitHeld, revisionDoneOf, pollAgainOf, polledDoneOf, statusDoneOf, restoreOf, banksDoneOf, restoreNextOf, crcDoneOf}
-use Rattle.session.specs.Reply.{stepOf}
+use Rattle.session.specs.Reply.{followOf}
 use Rattle.session.specs.Statements.{Due, first, later, Unfit, noLine, early, late}
 
 -- of a choice, by both its sides
@@ -60,10 +60,10 @@ kept-burned : (s : Session) (p : Position) (b : Bool) → (s .burned ≡ true �
 unfolding withPosition withBurned
 kept-burned s p b f = record { settings = refl; file = refl; sent = refl; burned = f }
 
-module _ (text : List ℕ) (s : Session) (word : ℕ) (P : Step → Handed → Type 0)
-    (puts : (g : Step) (t : Session) → Kept s t → (next : Step) (q : Request) → P g (putOf t next q)) (ends : (g : Step) (v : Verdict) → P g (endOf s v))
-    (bads : (g : Step) (n : LineNumber) → Due s word g n → Unfit text s n → P g (badOf s)) where
-  took-every : (g : Step) (n : LineNumber) → Due s word g n → (l : Line) (next : ℕ) → stepAt n (s .position .place) text ≡ Took l next
+module _ (text : List ℕ) (s : Session) (word : ℕ) (P : Awaited → Handed → Type 0)
+    (puts : (g : Awaited) (t : Session) → Kept s t → (next : Awaited) (q : Request) → P g (putOf t next q)) (ends : (g : Awaited) (v : Verdict) → P g (endOf s v))
+    (bads : (g : Awaited) (n : LineNumber) → Due s word g n → Unfit text s n → P g (badOf s)) where
+  took-every : (g : Awaited) (n : LineNumber) → Due s word g n → (l : Line) (next : ℕ) → nextLine n (s .position .place) text ≡ Took l next
       → P g (tookOf s l next n)
   unfolding tookOf duePutOf
   took-every g n d l next e =
@@ -71,13 +71,13 @@ module _ (text : List ℕ) (s : Session) (word : ℕ) (P : Step → Handed → T
       (λ f. by (P g) (eqb (n .0) (s .file .lines)) _ _ (λ h. puts g _ (kept-burned s _ true (λ x. refl)) _ _) (λ h. bads g n d (early l next e f (eqb-false _ _ h))))
       (λ f. by (P g) (eqb (n .0) (s .file .lines)) _ _ (λ h. bads g n d (late l next e f (eqb-true _ _ h))) (λ h. puts g _ (kept-burned s _ (s .burned) (λ x. x)) _ _))
 
-  due-every : (g : Step) (n : LineNumber) → Due s word g n → (t : line.Step) → stepAt n (s .position .place) text ≡ t → P g (dueOf s n t)
+  due-every : (g : Awaited) (n : LineNumber) → Due s word g n → (t : line.NextLine) → nextLine n (s .position .place) text ≡ t → P g (dueOf s n t)
   unfolding dueOf
   due-every g n d End e = bads g n d (noLine (λ l next f. let z : _≡_ {A = ℕ} 0 1 = cc in omega arith))
   due-every g n d (Took l next) e = took-every g n d l next e
   due-every g n d (Stopped fault) e = bads g n d (noLine (λ l next f. let z : _≡_ {A = ℕ} 0 1 = cc in omega arith))
 
-  line-every : (g : Step) (n : LineNumber) → Due s word g n → P g (putLineOf text s n)
+  line-every : (g : Awaited) (n : LineNumber) → Due s word g n → P g (putLineOf text s n)
   unfolding putLineOf
   line-every g n d = due-every g n d _ refl
 
@@ -99,7 +99,7 @@ module _ (text : List ℕ) (s : Session) (word : ℕ) (P : Step → Handed → T
   polled-every Passed = puts StatusRead s (kept s) _ _
   polled-every Failed = ends StatusRead Program
 
-  restore-every : (g : Step) (N : ConfigNumber) → P g (restoreOf s N)
+  restore-every : (g : Awaited) (N : ConfigNumber) → P g (restoreOf s N)
   unfolding restoreOf
   restore-every g N = puts g _ (kept-moved s _) _ _
 
@@ -117,12 +117,12 @@ module _ (text : List ℕ) (s : Session) (word : ℕ) (P : Step → Handed → T
       (λ f. restore-every CrcRead _) (λ f. ends CrcRead Done))
       (λ e. ends CrcRead (Mismatch (s .position .config)))
 
-  pub step-every : (g : Step) → P g (stepOf text s g word)
-  unfolding stepOf counterDoneOf identityDoneOf flagDoneOf revisionDoneOf statusDoneOf
-  step-every TrimAt = puts TrimAt s (kept s) _ _
-  step-every TrimRead = puts TrimRead s (kept s) _ _
-  step-every TrimWrite = puts TrimWrite s (kept s) _ _
-  step-every TrimDo = puts TrimDo s (kept s) _ _
+  pub step-every : (g : Awaited) → P g (followOf text s g word)
+  unfolding followOf counterDoneOf identityDoneOf flagDoneOf revisionDoneOf statusDoneOf
+  step-every CaptureAt = puts CaptureAt s (kept s) _ _
+  step-every CaptureRead = puts CaptureRead s (kept s) _ _
+  step-every CaptureWrite = puts CaptureWrite s (kept s) _ _
+  step-every CaptureApply = puts CaptureApply s (kept s) _ _
   step-every CounterAt = puts CounterAt s (kept s) _ _
   step-every CounterRead = puts CounterRead _ (kept-moved s _) _ _
   step-every IdentityRead = puts IdentityRead _ (kept-moved s _) _ _

@@ -6,17 +6,17 @@ use mathlib.Core.Bool.{Bool, true, false, cond}
 use mathlib.Core.List.{List}
 use Rattle.counts.specs.declared.LineNumber.{LineNumber}
 use Rattle.bus.specs.Bus.{noRequest}
-use Rattle.bus.specs.Form.{formOf}
+use Rattle.bus.specs.ReplyForm.{formOf}
 use Rattle.bus.specs.declared.Request.{Request}
-use Rattle.bus.specs.declared.Form.{Form}
-use Rattle.bus.specs.declared.Form.the-variants.{Unanswered, Misshapen, Miscoded, Good}
+use Rattle.bus.specs.declared.ReplyForm.{ReplyForm}
+use Rattle.bus.specs.declared.ReplyForm.the-variants.{Unanswered, Misshapen, Miscoded, Good}
 use Rattle.guide.specs.declared.Verdict.{Verdict}
 use Rattle.session.specs.declared.Session.{Session}
 use Rattle.session.specs.declared.Handed.{Handed}
 use Rattle.session.specs.declared.Answer.the-variants.{Over, BadState}
 use Rattle.session.specs.declared.Stage.{Stage}
 use Rattle.session.specs.declared.Stage.the-variants.{Open, Ended}
-use Rattle.session.specs.declared.Step.{Step}
+use Rattle.session.specs.declared.Awaited.{Awaited}
 use Rattle.session.specs.Moves.{withStage, putOf, endOf, badOf, overOf}
 use Rattle.session.specs.Sound.{soundOf}
 use Rattle.session.specs.Reply.{repliedOf, replyOf}
@@ -29,24 +29,24 @@ use Rattle.session.proofs.Refusing.{due-bad}
 
 module _ (text : List ℕ) (s : Session) (kind : ℕ) (bs : List ℕ) where
   -- what is shown of what a call hands back
-  record Shown (g : Step) (h : Handed) : Type 0 where
+  record Shown (g : Awaited) (h : Handed) : Type 0 where
     only : h .answer ≡ BadState → Fifteen text s kind bs g
     leaves : h .answer ≡ BadState → (h .session ≡ s) × (h .request ≡ noRequest)
     ends : (v : Verdict) → h .answer ≡ Over v → (h .session .stage ≡ Ended v) × (h .request ≡ noRequest)
 
-  put-shown : (g : Step) (t : Session) → Kept s t → (next : Step) (q : Request) → Shown g (putOf t next q)
+  put-shown : (g : Awaited) (t : Session) → Kept s t → (next : Awaited) (q : Request) → Shown g (putOf t next q)
   unfolding putOf
   put-shown g t k next q = record { only = λ e. next-bad e; leaves = λ e. next-bad e; ends = λ v e. next-over e }
 
-  end-shown : (g : Step) (v : Verdict) → Shown g (endOf s v)
+  end-shown : (g : Awaited) (v : Verdict) → Shown g (endOf s v)
   unfolding endOf withStage
   end-shown g v = record { only = λ e. over-bad e; leaves = λ e. over-bad e; ends = λ w e. (cc, refl) }
 
-  bad-shown : (g : Step) → Fifteen text s kind bs g → Shown g (badOf s)
+  bad-shown : (g : Awaited) → Fifteen text s kind bs g → Shown g (badOf s)
   unfolding badOf
   bad-shown g f = record { only = λ e. f; leaves = λ e. (refl, refl); ends = λ v e. over-bad (sym e) }
 
-  replied-shown : (g : Step) (f : Form) → formOf (s .hand) kind bs ≡ f → Shown g (repliedOf text s g f)
+  replied-shown : (g : Awaited) (f : ReplyForm) → formOf (s .hand) kind bs ≡ f → Shown g (repliedOf text s g f)
   unfolding repliedOf
   replied-shown g Unanswered e = end-shown g _
   replied-shown g Misshapen e = end-shown g _
@@ -54,11 +54,11 @@ module _ (text : List ℕ) (s : Session) (kind : ℕ) (bs : List ℕ) where
   replied-shown g (Good word) e =
       step-every text s word Shown put-shown end-shown (λ h n d u. bad-shown h (due word n e d u)) g
 
-  open-shown : (g : Step) (b : Bool) → soundOf s ≡ b → Shown g (cond b (repliedOf text s g (formOf (s .hand) kind bs)) (badOf s))
+  open-shown : (g : Awaited) (b : Bool) → soundOf s ≡ b → Shown g (cond b (repliedOf text s g (formOf (s .hand) kind bs)) (badOf s))
   open-shown g true e = replied-shown g _ refl
   open-shown g false e = bad-shown g (before (refused-spoiled s e))
 
-  stage-shown : (g : Step) → s .stage ≡ Open g → Shown g (replyOf text s kind bs)
+  stage-shown : (g : Awaited) → s .stage ≡ Open g → Shown g (replyOf text s kind bs)
   stage-shown g e = rw (← when-open text s kind bs g (soundOf s) e refl) (open-shown g (soundOf s) refl)
 
   -- the same verdict, the same state and a request of zeros
@@ -73,17 +73,17 @@ module _ (text : List ℕ) (s : Session) (kind : ℕ) (bs : List ℕ) where
       let held : replyOf text s kind bs .session ≡ s = still w o .1 in
       ap (λ (t : Session). t .stage) held ∙ cc
 
-  by-stage : {A : Type 0} (g : Stage) → s .stage ≡ g → ((h : Step) → s .stage ≡ Open h → A) → ((v : Verdict) → s .stage ≡ Ended v → A) → A
+  by-stage : {A : Type 0} (g : Stage) → s .stage ≡ g → ((h : Awaited) → s .stage ≡ Open h → A) → ((v : Verdict) → s .stage ≡ Ended v → A) → A
   by-stage (Open h) e f k = f h e
   by-stage (Ended v) e f k = k v e
 
-  due-refused : (g : Step) (word : ℕ) (n : LineNumber) → formOf (s .hand) kind bs ≡ Good word → Due s word g n → Unfit text s n
+  due-refused : (g : Awaited) (word : ℕ) (n : LineNumber) → formOf (s .hand) kind bs ≡ Good word → Due s word g n → Unfit text s n
       → (b : Bool) → cond b (repliedOf text s g (formOf (s .hand) kind bs)) (badOf s) ≡ badOf s
   unfolding repliedOf
   due-refused g word n f d u true = rw f (due-bad text s word g n d u)
   due-refused g word n f d u false = refl
 
-  refused : (g : Step) → s .stage ≡ Open g → Fifteen text s kind bs g → replyOf text s kind bs ≡ badOf s
+  refused : (g : Awaited) → s .stage ≡ Open g → Fifteen text s kind bs g → replyOf text s kind bs ≡ badOf s
   refused g e (before spoilt) = sym (when-open text s kind bs g false e (spoiled-refused s spoilt))
   refused g e (due word n f d u) = sym (when-open text s kind bs g (soundOf s) e refl) ∙ due-refused g word n f d u (soundOf s)
 

@@ -12,8 +12,8 @@ use Rattle.line.proofs.Basics.{split}
 use Rattle.image.specs.declared.Summary.{Summary}
 use Rattle.image.specs.declared.Refusal.{Refusal}
 use Rattle.image.specs.declared.Refusal.the-variants.{Size, Line, Count, Revision, Device, Burn, Spot, Beyond, Same}
-use Rattle.image.specs.declared.Answer.{Answer}
-use Rattle.image.specs.declared.Answer.the-variants.{Accepted, Refused}
+use Rattle.image.specs.declared.FileAnswer.{FileAnswer}
+use Rattle.image.specs.declared.FileAnswer.the-variants.{Accepted, Refused}
 use Rattle.image.specs.Check.{refusalNumber, checkOf}
 use Rattle.session.specs.declared.Settings.{Settings}
 use Rattle.session.specs.declared.Report.the-variants.{Waiting, Is}
@@ -46,7 +46,7 @@ refusal-not Beyond e = absurd (let y : ⊥ = omega arith in y)
 refusal-not Same e = absurd (let y : ⊥ = omega arith in y)
 
 module _ (S : Settings) where
-  answered-not : {A : Type 0} (f : Summary) (a : Answer) (l : LineNumber) (N : ConfigNumber) → reportOf (answeredOf S f a .answer) ≡ Is 14 l N → A
+  answered-not : {A : Type 0} (f : Summary) (a : FileAnswer) (l : LineNumber) (N : ConfigNumber) → reportOf (answeredOf S f a .answer) ≡ Is 14 l N → A
   unfolding answeredOf refusedOf overOf reportOf
   answered-not f Accepted l N e =
       let w : Waiting ≡ Is 14 l N = sym (ap reportOf (started S f)) ∙ e in

@@ -9,14 +9,14 @@ use Rattle.counts.specs.Counts.{lineCount}
 use Rattle.counts.specs.declared.Kind.{Kind}
 use Rattle.counts.specs.declared.Kind.the-variants.{Legacy, Production}
 use Rattle.image.specs.declared.Checked.{Checked}
-use Rattle.image.specs.declared.Answer.{Answer}
+use Rattle.image.specs.declared.FileAnswer.{FileAnswer}
 use Rattle.image.specs.Check.{checkOf}
-use Rattle.bus.specs.Form.{formOf}
+use Rattle.bus.specs.ReplyForm.{formOf}
 use Rattle.guide.specs.declared.Verdict.{Verdict}
 use Rattle.guide.specs.declared.Verdict.the-variants.{Setting}
 use Rattle.session.specs.declared.Settings.{Settings}
 use Rattle.session.specs.declared.Session.{Session}
-use Rattle.session.specs.declared.Step.{Step}
+use Rattle.session.specs.declared.Awaited.{Awaited}
 use Rattle.session.specs.declared.Stage.the-variants.{Open, Ended}
 use Rattle.session.specs.Moves.{Ready, overOf, badOf}
 use Rattle.session.specs.Sound.{settingTests, allowedOf, fileTests, fileSound, mostSent, heldTests, heldSound, stateTests, soundOf}
@@ -50,14 +50,14 @@ module _ (text : List ℕ) (s : Session) (kind : ℕ) (bs : List ℕ) where
   unfolding replyOf stageOf
   when-ended v e = ap (stageOf text s kind bs) (sym e)
 
-  pub when-open : (g : Step) (b : Bool) → s .stage ≡ Open g → soundOf s ≡ b
+  pub when-open : (g : Awaited) (b : Bool) → s .stage ≡ Open g → soundOf s ≡ b
       → cond b (repliedOf text s g (formOf (s .hand) kind bs)) (badOf s) ≡ replyOf text s kind bs
   unfolding replyOf stageOf
   when-open g b e q = chosen (soundOf s) b _ _ q ∙ ap (stageOf text s kind bs) (sym e)
 
 -- a begin, by what the file's check says
 module _ (S : Settings) (text : List ℕ) where
-  pub begin-answered : (k : Checked) (a : Answer) → k ≡ checkOf text → allowedOf S ≡ true → k .answer ≡ a
+  pub begin-answered : (k : Checked) (a : FileAnswer) → k ≡ checkOf text → allowedOf S ≡ true → k .answer ≡ a
       → answeredOf S (k .summary) a ≡ beginOf S text
   unfolding beginOf checkedOf
   begin-answered k a e q p = ap (answeredOf S (k .summary)) (sym p) ∙ (ap (checkedOf S) e ∙ chosen (allowedOf S) true _ _ q)

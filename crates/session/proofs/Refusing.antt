@@ -6,22 +6,22 @@ use mathlib.Core.List.{List}
 use borrow.Author.Tests.{lt-ltb, eq-eqb, ne-eqb}
 use Rattle.counts.specs.declared.LineNumber.{LineNumber}
 use Rattle.line.specs.declared.Line.{Line}
-use Rattle.line.specs.declared.Step as line
-use Rattle.line.specs.declared.Step.the-variants.{End, Took, Stopped}
-use Rattle.line.specs.Reading.{stepAt}
+use Rattle.line.specs.declared.NextLine as line
+use Rattle.line.specs.declared.NextLine.the-variants.{End, Took, Stopped}
+use Rattle.line.specs.Reading.{nextLine}
 use Rattle.image.specs.Says.{isBurn}
 use Rattle.guide.proofs.Judging.{judged-exactly}
 use Rattle.session.specs.declared.Session.{Session}
-use Rattle.session.specs.declared.Step.{Step}
+use Rattle.session.specs.declared.Awaited.{Awaited}
 use Rattle.session.specs.Moves.{badOf}
 use Rattle.session.specs.Lines.{tookOf, dueOf, putLineOf, lineDoneOf}
 use Rattle.session.specs.Stages.{fitHeld, fitDoneOf, revisionDoneOf}
-use Rattle.session.specs.Reply.{stepOf}
+use Rattle.session.specs.Reply.{followOf}
 use Rattle.session.specs.Statements.{Due, first, later, Unfit, noLine, early, late}
 
 module _ (text : List ℕ) (s : Session) where
-  noLine-bad : (n : LineNumber) (t : line.Step) → stepAt n (s .position .place) text ≡ t
-      → ((l : Line) (next : ℕ) → stepAt n (s .position .place) text ≡ Took l next → ⊥) → dueOf s n t ≡ badOf s
+  noLine-bad : (n : LineNumber) (t : line.NextLine) → nextLine n (s .position .place) text ≡ t
+      → ((l : Line) (next : ℕ) → nextLine n (s .position .place) text ≡ Took l next → ⊥) → dueOf s n t ≡ badOf s
   unfolding dueOf
   noLine-bad n End e f = refl
   noLine-bad n (Took l next) e f = absurd (f l next e)
@@ -37,12 +37,12 @@ module _ (text : List ℕ) (s : Session) where
 
   unfit-bad : (n : LineNumber) → Unfit text s n → putLineOf text s n ≡ badOf s
   unfolding putLineOf
-  unfit-bad n (noLine f) = noLine-bad n (stepAt n (s .position .place) text) refl f
+  unfit-bad n (noLine f) = noLine-bad n (nextLine n (s .position .place) text) refl f
   unfit-bad n (early l next e b h) = ap (dueOf s n) e ∙ early-bad n l next b h
   unfit-bad n (late l next e b h) = ap (dueOf s n) e ∙ late-bad n l next b h
 
-  pub due-bad : (word : ℕ) (g : Step) (n : LineNumber) → Due s word g n → Unfit text s n → stepOf text s g word ≡ badOf s
-  unfolding stepOf revisionDoneOf fitDoneOf fitHeld lineDoneOf
+  pub due-bad : (word : ℕ) (g : Awaited) (n : LineNumber) → Due s word g n → Unfit text s n → followOf text s g word ≡ badOf s
+  unfolding followOf revisionDoneOf fitDoneOf fitHeld lineDoneOf
   due-bad word g n (first f) u =
       rw (judged-exactly (s .file) (s .position .counter) (s .position .identity) (s .position .flag) word .passes f) (unfit-bad n u)
   due-bad word g n (later h) u = rw (lt-ltb (s .position .line .0) (s .file .lines) h) (unfit-bad n u)

@@ -6,8 +6,8 @@ use Rattle.counts.specs.declared.LineNumber.{LineNumber}
 use Rattle.counts.specs.Counts.{lineNumber, configNumber, firstLine}
 use Rattle.image.specs.declared.Summary.{Summary}
 use Rattle.image.specs.declared.Checked.{Checked}
-use Rattle.image.specs.declared.Answer.{Answer}
-use Rattle.image.specs.declared.Answer.the-variants.{Accepted, Refused}
+use Rattle.image.specs.declared.FileAnswer.{FileAnswer}
+use Rattle.image.specs.declared.FileAnswer.the-variants.{Accepted, Refused}
 use Rattle.image.specs.Says.{noSummary}
 use Rattle.image.specs.Check.{checkOf}
 use Rattle.bus.specs.Bus.{noRequest, pointTo}
@@ -19,7 +19,7 @@ use Rattle.session.specs.declared.Session.{Session}
 use Rattle.session.specs.declared.Handed.{Handed}
 use Rattle.session.specs.declared.Stage.{Stage}
 use Rattle.session.specs.declared.Stage.the-variants.{Open, Ended}
-use Rattle.session.specs.declared.Step.the-variants.{TrimAt, CounterAt}
+use Rattle.session.specs.declared.Awaited.the-variants.{CaptureAt, CounterAt}
 use Rattle.session.specs.Sound.{allowedOf}
 use Rattle.session.specs.Moves.{putOf, overOf}
 
@@ -33,17 +33,17 @@ freshOf S f g p = record { settings = S; file = f; stage = g; hand = noRequest; 
 
 -- step 1 if wanted, else step 2: write C7 A2 00, or C7 35 00
 unfoldable pub firstOf : Session → Handed
-firstOf s = cond (s .settings .wanted) (putOf s TrimAt (pointTo 0xA2 0x00)) (putOf s CounterAt (pointTo 0x35 0x00))
+firstOf s = cond (s .settings .wanted) (putOf s CaptureAt (pointTo 0xA2 0x00)) (putOf s CounterAt (pointTo 0x35 0x00))
 
 -- an accepted begin hands back the first request, count 1; the line in hand is 5, and the place is where it begins
 unfoldable pub startOf : Settings → Summary → Handed
-startOf S f = firstOf (freshOf S f (Open TrimAt) (newPosition firstLine (f .first)))
+startOf S f = firstOf (freshOf S f (Open CaptureAt) (newPosition firstLine (f .line5)))
 
 -- a refused one hands back an ended state whose verdict is that number, and zeros
 unfoldable pub refusedOf : Settings → Verdict → Handed
 refusedOf S v = overOf (freshOf S noSummary (Ended v) (newPosition (lineNumber 0) 0)) v
 
-unfoldable pub answeredOf : Settings → Summary → Answer → Handed
+unfoldable pub answeredOf : Settings → Summary → FileAnswer → Handed
 answeredOf S f Accepted = startOf S f
 answeredOf S f (Refused r) = refusedOf S (File r)
 

@@ -7,16 +7,16 @@ use lib.Dec.{eqb, ltb}
 use Rattle.counts.specs.declared.LineNumber.{LineNumber}
 use Rattle.counts.specs.Counts.{lineNumber}
 use Rattle.line.specs.declared.Line.{Line}
-use Rattle.line.specs.declared.Step as line
-use Rattle.line.specs.declared.Step.the-variants.{End, Took, Stopped}
-use Rattle.line.specs.Reading.{stepAt}
+use Rattle.line.specs.declared.NextLine as line
+use Rattle.line.specs.declared.NextLine.the-variants.{End, Took, Stopped}
+use Rattle.line.specs.Reading.{nextLine}
 use Rattle.image.specs.Says.{isBurn}
 use Rattle.bus.specs.Bus.{pointTo}
 use Rattle.guide.specs.Guide.{lineRequest}
 use Rattle.session.specs.declared.Position.{Position}
 use Rattle.session.specs.declared.Session.{Session}
 use Rattle.session.specs.declared.Handed.{Handed}
-use Rattle.session.specs.declared.Step.the-variants.{LineOut, StatusAt}
+use Rattle.session.specs.declared.Awaited.the-variants.{LineOut, StatusAt}
 use Rattle.session.specs.Moves.{withPosition, withBurned, putOf, badOf}
 
 unfoldable pub atLine : Position → LineNumber → ℕ → Position
@@ -35,13 +35,13 @@ tookOf s l next n =
     (cond (eqb (n .0) (s .file .lines)) (badOf s) (duePutOf s l next n (s .burned)))
 
 -- what stands at the held place is to pass 2 to 6 as a write line
-unfoldable pub dueOf : Session → LineNumber → line.Step → Handed
+unfoldable pub dueOf : Session → LineNumber → line.NextLine → Handed
 dueOf s n End = badOf s
 dueOf s n (Took l next) = tookOf s l next n
 dueOf s n (Stopped fault) = badOf s
 
 unfoldable pub putLineOf : List ℕ → Session → LineNumber → Handed
-putLineOf text s n = dueOf s n (stepAt n (s .position .place) text)
+putLineOf text s n = dueOf s n (nextLine n (s .position .place) text)
 
 -- the line after the one in hand; behind line n comes step 4: write C7 7E 00
 unfoldable pub lineDoneOf : List ℕ → Session → Handed

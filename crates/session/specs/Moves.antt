@@ -9,7 +9,7 @@ use Rattle.session.specs.declared.Position.{Position}
 use Rattle.session.specs.declared.Session.{Session}
 use Rattle.session.specs.declared.Stage.{Stage}
 use Rattle.session.specs.declared.Stage.the-variants.{Open, Ended}
-use Rattle.session.specs.declared.Step.{Step}
+use Rattle.session.specs.declared.Awaited.{Awaited}
 use Rattle.session.specs.declared.Answer.the-variants.{Next, Over, BadState}
 use Rattle.session.specs.declared.Handed.{Handed}
 
@@ -33,7 +33,7 @@ unfoldable pub withSent : Session → ℕ → Session
 withSent s n = record { settings = s .settings; file = s .file; stage = s .stage; hand = s .hand; position = s .position; sent = n; burned = s .burned }
 
 -- a request that is handed over is put out: the count is one more
-unfoldable pub putOf : Session → Step → Request → Handed
+unfoldable pub putOf : Session → Awaited → Request → Handed
 putOf s g q = record { session = withSent (withStage s (Open g) q) (s .sent + 1); request = q; answer = Next }
 
 -- a verdict comes with a request of zeros

@@ -17,7 +17,7 @@ use Rattle.guide.specs.Guide.{idIn, crcIn}
 use Rattle.session.specs.declared.Position.{Position}
 use Rattle.session.specs.declared.Session.{Session}
 use Rattle.session.specs.declared.Handed.{Handed}
-use Rattle.session.specs.declared.Step.the-variants.{IdentityRead, FlagAt, RevisionRead, StatusRead, BanksAt, Restore}
+use Rattle.session.specs.declared.Awaited.the-variants.{IdentityRead, FlagAt, RevisionRead, StatusRead, BanksAt, Restore}
 use Rattle.session.specs.Moves.{withPosition, putOf, endOf}
 use Rattle.session.specs.Lines.{putLineOf}
 

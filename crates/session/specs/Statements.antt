@@ -9,20 +9,20 @@ use Rattle.counts.specs.declared.LineNumber.{LineNumber}
 use Rattle.counts.specs.declared.ConfigNumber.{ConfigNumber}
 use Rattle.counts.specs.Counts.{lineNumber, configNumber, configId, lineCount}
 use Rattle.line.specs.declared.Line.{Line}
-use Rattle.line.specs.declared.Step.the-variants.{Took}
-use Rattle.line.specs.Reading.{stepAt}
+use Rattle.line.specs.declared.NextLine.the-variants.{Took}
+use Rattle.line.specs.Reading.{nextLine}
 use Rattle.image.specs.Says.{isBurn}
 use Rattle.bus.specs.Bus.{noRequest}
-use Rattle.bus.specs.Form.{formOf}
-use Rattle.bus.specs.declared.Form.the-variants.{Good}
+use Rattle.bus.specs.ReplyForm.{formOf}
+use Rattle.bus.specs.declared.ReplyForm.the-variants.{Good}
 use Rattle.guide.specs.declared.Verdict.{Verdict}
 use Rattle.guide.specs.Matched.{Fits}
 use Rattle.session.specs.declared.Settings.{Settings}
 use Rattle.session.specs.declared.Session.{Session}
 use Rattle.session.specs.declared.Handed.{Handed}
 use Rattle.session.specs.declared.Stage.the-variants.{Open, Ended}
-use Rattle.session.specs.declared.Step.{Step}
-use Rattle.session.specs.declared.Step.the-variants.{RevisionRead, LineOut}
+use Rattle.session.specs.declared.Awaited.{Awaited}
+use Rattle.session.specs.declared.Awaited.the-variants.{RevisionRead, LineOut}
 use Rattle.session.specs.declared.Answer.the-variants.{Next, Over, BadState}
 use Rattle.session.specs.declared.Report.the-variants.{Is}
 use Rattle.session.specs.Reports.{reportOf}
@@ -68,15 +68,15 @@ pub data Spoiled (s : Session) : Type 0 where
 -- ---- 15, when a write line is due
 
 -- line 5 is due when the AE reply came in form and none of 23 to 28 applies, and a later one while the line in hand is before n
-pub data Due (s : Session) (word : ℕ) : Step → LineNumber → Type 0 where
+pub data Due (s : Session) (word : ℕ) : Awaited → LineNumber → Type 0 where
   first : Fits (s .file) (s .position .counter) (s .position .identity) (s .position .flag) word → Due s word RevisionRead (lineNumber 5)
   later : s .position .line .0 < s .file .lines → Due s word LineOut (lineNumber (s .position .line .0 + 1))
 
 -- the text from the held place is no write line, or the burn and not line n, or line n and not the burn
 pub data Unfit (text : List ℕ) (s : Session) (n : LineNumber) : Type 0 where
-  noLine : ((l : Line) (next : ℕ) → stepAt n (s .position .place) text ≡ Took l next → ⊥) → Unfit text s n
-  early : (l : Line) (next : ℕ) → stepAt n (s .position .place) text ≡ Took l next → isBurn l ≡ true → (n .0 ≡ s .file .lines → ⊥) → Unfit text s n
-  late : (l : Line) (next : ℕ) → stepAt n (s .position .place) text ≡ Took l next → isBurn l ≡ false → n .0 ≡ s .file .lines → Unfit text s n
+  noLine : ((l : Line) (next : ℕ) → nextLine n (s .position .place) text ≡ Took l next → ⊥) → Unfit text s n
+  early : (l : Line) (next : ℕ) → nextLine n (s .position .place) text ≡ Took l next → isBurn l ≡ true → (n .0 ≡ s .file .lines → ⊥) → Unfit text s n
+  late : (l : Line) (next : ℕ) → nextLine n (s .position .place) text ≡ Took l next → isBurn l ≡ false → n .0 ≡ s .file .lines → Unfit text s n
 
 -- ---- what a session is handed on as
 
@@ -96,13 +96,13 @@ module _ (text : List ℕ) (s : Session) (kind : ℕ) (bs : List ℕ) where
   handed = replyOf text s kind bs
 
   -- 15 is given in two places and nowhere else
-  pub data Fifteen (g : Step) : Type 0 where
+  pub data Fifteen (g : Awaited) : Type 0 where
     before : Spoiled s → Fifteen g
     due : (word : ℕ) (n : LineNumber) → formOf (s .hand) kind bs ≡ Good word → Due s word g n → Unfit text s n → Fifteen g
 
   pub record FifteenExactly : Type 0 where
-    pub only : handed .answer ≡ BadState → (g : Step) × (s .stage ≡ Open g) × Fifteen g
-    pub when : (g : Step) → s .stage ≡ Open g → Fifteen g → handed .answer ≡ BadState
+    pub only : handed .answer ≡ BadState → (g : Awaited) × (s .stage ≡ Open g) × Fifteen g
+    pub when : (g : Awaited) → s .stage ≡ Open g → Fifteen g → handed .answer ≡ BadState
     -- 15 leaves the state as given, and comes with a request of zeros
     pub leaves : handed .answer ≡ BadState → (handed .session ≡ s) × (handed .request ≡ noRequest)
 

@@ -1,15 +1,15 @@
 // The beginning: one operation checks the settings, checks the file and begins.
+use crate::Awaited;
 use crate::Handed;
 use crate::Position;
 use crate::Session;
 use crate::Settings;
 use crate::Stage;
-use crate::Step;
 use bus::Bus;
 use counts::ConfigNumber;
 use counts::LineNumber;
 use guide::Verdict;
-use image::Answer;
+use image::FileAnswer;
 use image::Summary;
 ghost use mathlib.Core.Path.{_≡_};
 ghost use Prim.Native.Nat.{_<_};
@@ -48,14 +48,14 @@ impl Session {
         }
     }
 
-    fn first(self) -> Handed
+    fn first_request(self) -> Handed
         requires { ⌜ self .sent < 4294967295 ⌝ }
         ensures { λ r. ⌜ r ≡ firstOf self ⌝ }
     {
         if self.settings.wanted {
-            self.put(Step::TrimAt, Bus::point(Bus::TRIM))
+            self.put(Awaited::CaptureAt, Bus::point(Bus::CAPTURE))
         } else {
-            self.put(Step::CounterAt, Bus::point(Bus::COUNTER))
+            self.put(Awaited::CounterAt, Bus::point(Bus::COUNTER))
         }
     }
 }
@@ -65,8 +65,8 @@ impl Settings {
     fn start(self, file: Summary) -> Handed
         ensures { λ r. ⌜ r ≡ startOf self file ⌝ }
     {
-        let position = Position::new(LineNumber::first_write(), file.first);
-        Session::fresh(self, file, Stage::Open(Step::TrimAt), position).first()
+        let position = Position::new(LineNumber::first_write(), file.line5);
+        Session::fresh(self, file, Stage::Open(Awaited::CaptureAt), position).first_request()
     }
 
     // An ended state, of which only the settings and the verdict say anything.
@@ -86,8 +86,8 @@ impl Settings {
             let answer = checked.answer;
             let summary = checked.summary;
             match answer {
-                Answer::Accepted => self.start(summary),
-                Answer::Refused(refusal) => self.refused(Verdict::File(refusal)),
+                FileAnswer::Accepted => self.start(summary),
+                FileAnswer::Refused(refusal) => self.refused(Verdict::File(refusal)),
             }
         } else {
             self.refused(Verdict::Setting)

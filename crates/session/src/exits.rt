@@ -1,10 +1,10 @@
 // What every call ends in: a request is put out, a verdict, or the refusal of the state.
 use crate::Answer;
+use crate::Awaited;
 use crate::Handed;
 use crate::Position;
 use crate::Session;
 use crate::Stage;
-use crate::Step;
 use bus::Bus;
 use bus::Request;
 use guide::Verdict;
@@ -41,11 +41,11 @@ impl Session {
     }
 
     // A request that is handed over is put out, and the reply is judged by it.
-    pub(crate) fn put(self, step: Step, request: Request) -> Handed
+    pub(crate) fn put(self, awaited: Awaited, request: Request) -> Handed
         requires { ⌜ self .sent < 4294967295 ⌝ }
-        ensures { λ r. ⌜ r ≡ putOf self step request ⌝ }
+        ensures { λ r. ⌜ r ≡ putOf self awaited request ⌝ }
     {
-        let mut next = self.at(Stage::Open(step), request);
+        let mut next = self.at(Stage::Open(awaited), request);
         next.sent = self.sent + 1;
         Handed {
             session: next,

@@ -23,11 +23,11 @@ pub struct Settings {
 }
 
 // The request whose reply is awaited, in the order of the six steps.
-pub enum Step {
-    TrimAt,
-    TrimRead,
-    TrimWrite,
-    TrimDo,
+pub enum Awaited {
+    CaptureAt,
+    CaptureRead,
+    CaptureWrite,
+    CaptureApply,
     CounterAt,
     CounterRead,
     IdentityRead,
@@ -45,7 +45,7 @@ pub enum Step {
 }
 
 pub enum Stage {
-    Open(Step),
+    Open(Awaited),
     Ended(Verdict),
 }
 

@@ -1,7 +1,7 @@
 // Step 3: the write line that is due. It is read where the session holds its place, in the text that is lent anew at each call.
+use crate::Awaited;
 use crate::Handed;
 use crate::Session;
-use crate::Step;
 use bus::Bus;
 use counts::LineNumber;
 use line::Line;
@@ -20,7 +20,7 @@ impl Session {
         p.place = next;
         let mut s = self.moved(p);
         s.burned = burned;
-        s.put(Step::LineOut, guide::line_request(line))
+        s.put(Awaited::LineOut, guide::line_request(line))
     }
 
     // Line n and no other is the burn. A burn mark that is set stays set.
@@ -51,9 +51,9 @@ impl Session {
         let place = self.position.place;
         let due = line::read_one(text, place, number);
         match due {
-            line::Step::End => self.bad(),
-            line::Step::Took(line, next) => self.took(line, next, number),
-            line::Step::Stopped(_) => self.bad(),
+            line::NextLine::End => self.bad(),
+            line::NextLine::Took(line, next) => self.took(line, next, number),
+            line::NextLine::Stopped(_) => self.bad(),
         }
     }
 
@@ -66,7 +66,7 @@ impl Session {
         if line < self.file.lines {
             self.put_line(text, LineNumber(line + 1))
         } else {
-            self.put(Step::StatusAt, Bus::point(Bus::STATUS))
+            self.put(Awaited::StatusAt, Bus::point(Bus::STATUS))
         }
     }
 }

@@ -1,56 +1,56 @@
 // A reply: a verdict is looked at first, then the held state, then the reply by the request in hand.
 use crate::Answer;
+use crate::Awaited;
 use crate::Handed;
 use crate::Session;
 use crate::Stage;
-use crate::Step;
 use bus::Bus;
-use bus::Form;
+use bus::ReplyForm;
 use guide::Verdict;
 ghost use mathlib.Core.Path.{_≡_};
 ghost use Rattle.session.specs.Moves.{Ready, overOf};
-ghost use Rattle.session.specs.Reply.{stepOf, repliedOf, replyOf};
+ghost use Rattle.session.specs.Reply.{followOf, repliedOf, replyOf};
 
 impl Session {
     // A reply in form, by the request that it answers.
-    fn step(self, text: &[u8], step: Step, word: u32) -> Handed
+    fn follow(self, text: &[u8], awaited: Awaited, word: u32) -> Handed
         requires { ⌜ Ready self ⌝ }
-        ensures { λ r. ⌜ r ≡ stepOf (now (text .entry)) self step word ⌝ }
+        ensures { λ r. ⌜ r ≡ followOf (now (text .entry)) self awaited word ⌝ }
     {
-        match step {
-            Step::TrimAt => self.put(Step::TrimRead, Bus::read(Bus::DATA, 5)),
-            Step::TrimRead => self.put(
-                Step::TrimWrite,
+        match awaited {
+            Awaited::CaptureAt => self.put(Awaited::CaptureRead, Bus::read(Bus::DATA, 5)),
+            Awaited::CaptureRead => self.put(
+                Awaited::CaptureWrite,
                 Bus::write4(Bus::DATA, guide::cleared(word)),
             ),
-            Step::TrimWrite => self.put(Step::TrimDo, Bus::write2(Bus::COMMAND, 2, 0)),
-            Step::TrimDo => self.put(Step::CounterAt, Bus::point(Bus::COUNTER)),
-            Step::CounterAt => self.put(Step::CounterRead, Bus::read(Bus::DATA, 5)),
-            Step::CounterRead => self.counter_done(word),
-            Step::IdentityRead => self.identity_done(word),
-            Step::FlagAt => self.put(Step::FlagRead, Bus::read(Bus::DATA, 5)),
-            Step::FlagRead => self.flag_done(word),
-            Step::RevisionRead => self.revision_done(text, word),
-            Step::LineOut => self.line_done(text),
-            Step::StatusAt => self.put(Step::StatusRead, Bus::read(Bus::DATA, 5)),
-            Step::StatusRead => self.status_done(word),
-            Step::BanksAt => self.put(Step::BanksRead, Bus::read(Bus::DATA, 5)),
-            Step::BanksRead => self.banks_done(word),
-            Step::Restore => self.put(Step::CrcAt, Bus::point(Bus::CRC)),
-            Step::CrcAt => self.put(Step::CrcRead, Bus::read(Bus::DATA, 5)),
-            Step::CrcRead => self.crc_done(word),
+            Awaited::CaptureWrite => self.put(Awaited::CaptureApply, Bus::write2(Bus::ACT, 2, 0)),
+            Awaited::CaptureApply => self.put(Awaited::CounterAt, Bus::point(Bus::COUNTER)),
+            Awaited::CounterAt => self.put(Awaited::CounterRead, Bus::read(Bus::DATA, 5)),
+            Awaited::CounterRead => self.counter_done(word),
+            Awaited::IdentityRead => self.identity_done(word),
+            Awaited::FlagAt => self.put(Awaited::FlagRead, Bus::read(Bus::DATA, 5)),
+            Awaited::FlagRead => self.flag_done(word),
+            Awaited::RevisionRead => self.revision_done(text, word),
+            Awaited::LineOut => self.line_done(text),
+            Awaited::StatusAt => self.put(Awaited::StatusRead, Bus::read(Bus::DATA, 5)),
+            Awaited::StatusRead => self.status_done(word),
+            Awaited::BanksAt => self.put(Awaited::BanksRead, Bus::read(Bus::DATA, 5)),
+            Awaited::BanksRead => self.banks_done(word),
+            Awaited::Restore => self.put(Awaited::CrcAt, Bus::point(Bus::CRC)),
+            Awaited::CrcAt => self.put(Awaited::CrcRead, Bus::read(Bus::DATA, 5)),
+            Awaited::CrcRead => self.crc_done(word),
         }
     }
 
-    fn replied(self, text: &[u8], step: Step, form: Form) -> Handed
+    fn replied(self, text: &[u8], awaited: Awaited, form: ReplyForm) -> Handed
         requires { ⌜ Ready self ⌝ }
-        ensures { λ r. ⌜ r ≡ repliedOf (now (text .entry)) self step form ⌝ }
+        ensures { λ r. ⌜ r ≡ repliedOf (now (text .entry)) self awaited form ⌝ }
     {
         match form {
-            Form::Unanswered => self.end(Verdict::Nack),
-            Form::Misshapen => self.end(Verdict::Shape),
-            Form::Miscoded => self.end(Verdict::Pec),
-            Form::Good(word) => self.step(text, step, word),
+            ReplyForm::Unanswered => self.end(Verdict::Nack),
+            ReplyForm::Misshapen => self.end(Verdict::Shape),
+            ReplyForm::Miscoded => self.end(Verdict::Pec),
+            ReplyForm::Good(word) => self.follow(text, awaited, word),
         }
     }
 
@@ -72,10 +72,10 @@ impl Session {
         let stage = self.stage;
         match stage {
             Stage::Ended(verdict) => self.over(verdict),
-            Stage::Open(step) => {
+            Stage::Open(awaited) => {
                 if self.sound() {
                     let hand = self.hand;
-                    self.replied(text, step, hand.form(kind, bytes))
+                    self.replied(text, awaited, hand.form(kind, bytes))
                 } else {
                     self.bad()
                 }

@@ -1,7 +1,7 @@
 // What each reply leads to.
+use crate::Awaited;
 use crate::Handed;
 use crate::Session;
-use crate::Step;
 use bus::Bus;
 use counts::ConfigNumber;
 use counts::LineNumber;
@@ -22,7 +22,7 @@ impl Session {
         let mut p = self.position;
         p.counter = word;
         self.moved(p)
-            .put(Step::IdentityRead, Bus::read(Bus::IDENTITY, 6))
+            .put(Awaited::IdentityRead, Bus::read(Bus::IDENTITY, 6))
     }
 
     // Kept for 24.
@@ -32,7 +32,7 @@ impl Session {
     {
         let mut p = self.position;
         p.identity = word;
-        self.moved(p).put(Step::FlagAt, Bus::point(Bus::FLAG))
+        self.moved(p).put(Awaited::FlagAt, Bus::point(Bus::FLAG))
     }
 
     // Kept for 25 and 27.
@@ -43,7 +43,7 @@ impl Session {
         let mut p = self.position;
         p.flag = word;
         self.moved(p)
-            .put(Step::RevisionRead, Bus::read(Bus::REVISION, 6))
+            .put(Awaited::RevisionRead, Bus::read(Bus::REVISION, 6))
     }
 
     // No place of the device is kept free.
@@ -79,7 +79,8 @@ impl Session {
         if polls < self.settings.limit {
             let mut p = self.position;
             p.polls = polls;
-            self.moved(p).put(Step::StatusRead, Bus::read(Bus::DATA, 5))
+            self.moved(p)
+                .put(Awaited::StatusRead, Bus::read(Bus::DATA, 5))
         } else {
             self.end(Verdict::Program)
         }
@@ -93,7 +94,7 @@ impl Session {
         let polled = Polled::of(word);
         match polled {
             Polled::Busy => self.poll_again(),
-            Polled::Passed => self.put(Step::BanksAt, Bus::point(Bus::BANKS)),
+            Polled::Passed => self.put(Awaited::BanksAt, Bus::point(Bus::BANKS)),
             Polled::Failed => self.end(Verdict::Program),
         }
     }
@@ -109,7 +110,7 @@ impl Session {
         let ids = self.file.ids;
         let id = ids[i];
         self.moved(p)
-            .put(Step::Restore, Bus::write1(self.settings.restore, id.0))
+            .put(Awaited::Restore, Bus::write1(self.settings.restore, id.0))
     }
 
     // Step 6 goes through the configurations from N = 0.

@@ -7,8 +7,8 @@ use Rattle.counts.specs.declared.Kind.{Kind}
 use Rattle.counts.specs.declared.Kind.the-variants.{Legacy, Production}
 use Rattle.counts.specs.Counts.{configId}
 use Rattle.image.specs.declared.Refusal.{Refusal}
-use Rattle.image.specs.declared.Answer.{Answer}
-use Rattle.image.specs.declared.Answer.the-variants.{Accepted, Refused}
+use Rattle.image.specs.declared.FileAnswer.{FileAnswer}
+use Rattle.image.specs.declared.FileAnswer.the-variants.{Accepted, Refused}
 use Rattle.image.specs.declared.Summary.{Summary}
 use Rattle.image.specs.Check.{refusalNumber, refusalLine, checkOf}
 use Rattle.text.specs.Text.{bytesOf, space, lineEnd, hex, decimal}
@@ -39,7 +39,7 @@ unfoldable pub refusedText : Refusal → List ℕ
 refusedText r =
     bytesOf "refused " ++ decimal (refusalNumber r) ++ bytesOf " line " ++ decimal (refusalLine r .0) ++ lineEnd
 
-unfoldable pub answerText : Answer → Summary → List ℕ
+unfoldable pub answerText : FileAnswer → Summary → List ℕ
 answerText Accepted s = acceptedText s
 answerText (Refused r) s = refusedText r
 

@@ -1,7 +1,7 @@
 // What the printing program writes of a file (document 01, "The printing program"), made into a lent buffer.
 use counts::ConfigId;
 use counts::Kind;
-use image::Answer;
+use image::FileAnswer;
 use image::Refusal;
 use image::Summary;
 use text::put_bytes;
@@ -95,7 +95,7 @@ pub fn show(text: &[u8], out: &mut [u8; 136]) -> usize
     let answer = checked.answer;
     let summary = checked.summary;
     match answer {
-        Answer::Accepted => put_accepted(out, summary),
-        Answer::Refused(r) => put_refused(out, r),
+        FileAnswer::Accepted => put_accepted(out, summary),
+        FileAnswer::Refused(r) => put_refused(out, r),
     }
 }

@@ -37,7 +37,7 @@ fn judge(kind: Kind, counter: u32, flag: u32) {
     match fit {
         Fit::Fails(verdict) => say_number(verdict.number()),
         Fit::Matched => {
-            let found = guide::wanted(counter, flag);
+            let found = guide::kind_wanted(counter, flag);
             match found {
                 KindFound::Is(wanted) => say_kind(wanted),
                 KindFound::Unknown => say(b"none\n"),

@@ -44,8 +44,8 @@ part-read-digits-end c =
 read-digits-requires : tie.Need-read-digits-requires
 read-digits-requires c κs = search needs
 
-step-by-requires : tie.Need-step-by-requires
-step-by-requires c κs = search needs
+next-by-requires : tie.Need-next-by-requires
+next-by-requires c κs = search needs
 
 returns : tie.Need-returns
 unfolding byEnding
@@ -59,7 +59,7 @@ returns-2 : tie.Need-returns-2
 unfolding byEnding
 returns-2 c =
     let a = c .before .before .before .before .before .before .before .before .before .args in
-    c .step-by .ensures ∙ rw (c .before .read-digits .ensures) (sym (lent-here (a .digits .now) (a .table .now) (a .n) (a .at) (a .s .now)
+    c .next-by .ensures ∙ rw (c .before .read-digits .ensures) (sym (lent-here (a .digits .now) (a .table .now) (a .n) (a .at) (a .s .now)
     (c .before .before .before .before .before .before .before .before .before .pre)
     (c .before .before .before .before .before .before .before .run-end .result)
     (c .before .before .before .before .before .before .before .run-end .ensures) (Next _) (via
@@ -77,6 +77,6 @@ searched-spec =
     part-read-digits-start
     part-read-digits-end
     read-digits-requires
-    step-by-requires
+    next-by-requires
     returns
     returns-2)

@@ -10,8 +10,8 @@ returns : tie.Need-returns
 unfolding fitOf
 returns c = simp (lt-ltb _ _ (c .if1 .taken))
 
-wanted-requires : tie.Need-wanted-requires
-wanted-requires c κs = search needs
+kind-wanted-requires : tie.Need-kind-wanted-requires
+kind-wanted-requires c κs = search needs
 
 fit-kind-requires : tie.Need-fit-kind-requires
 fit-kind-requires c κs = search needs
@@ -20,11 +20,11 @@ returns-2 : tie.Need-returns-2
 unfolding fitOf
 returns-2 c =
     simp (le-ltb _ _ (c .before .before .before .if1 .left), eq-eqb _ _ (c .before .before .if2 .taken))
-    (c .fit-kind .ensures ∙ ap (fitKind _ _ _ _ _) (c .before .wanted .ensures))
+    (c .fit-kind .ensures ∙ ap (fitKind _ _ _ _ _) (c .before .kind-wanted .ensures))
 
 returns-3 : tie.Need-returns-3
 unfolding fitOf
 returns-3 c = simp (le-ltb _ _ (c .before .if1 .left), ne-eqb _ _ (c .if2 .left))
 
 pub of-spec : {M : Type 1} → statement M
-of-spec = tie.close (tie.spec returns wanted-requires fit-kind-requires returns-2 returns-3)
+of-spec = tie.close (tie.spec returns kind-wanted-requires fit-kind-requires returns-2 returns-3)

@@ -1,4 +1,4 @@
--- By the case of the step. Assumes nothing.
+-- By what stands there. Assumes nothing.
 use Rattle.image.specs.Walk.{lineIn}
 use borrow.Author.Needs.{needs}
 use Rattle.image.proofs.config_lines.line_in.Statement.{statement}
@@ -7,8 +7,8 @@ use Rattle.image.proofs.config_lines.line_in.Tie as tie
 enum-told : tie.Need-enum-told
 enum-told c = search needs
 
-enum-known-step : tie.Need-enum-known-step
-enum-known-step c = search needs
+enum-known-found : tie.Need-enum-known-found
+enum-known-found c = search needs
 
 enum-told-2 : tie.Need-enum-told-2
 enum-told-2 c = search needs
@@ -19,7 +19,7 @@ returns c = rw (c .enum-told .given .1)
 
 returns-2 : tie.Need-returns-2
 unfolding lineIn
-returns-2 c = rw (c .before .step .given .1)
+returns-2 c = rw (c .before .found .given .1)
 
 returns-3 : tie.Need-returns-3
 unfolding lineIn
@@ -27,4 +27,4 @@ returns-3 c = rw (c .enum-told2 .given .1)
 
 pub line-in-spec : {M : Type 1} → statement M
 line-in-spec =
-    tie.close (tie.spec enum-told enum-known-step enum-told-2 returns returns-2 returns-3)
+    tie.close (tie.spec enum-told enum-known-found enum-told-2 returns returns-2 returns-3)

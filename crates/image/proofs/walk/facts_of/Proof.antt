@@ -41,8 +41,8 @@ returns c =
     (lineNumber (f .lines + 1)) at (a .s .now) (c .before .before .read-at .ensures) in
     sym (c .before .before .before .before .loop .inv .0 ∙ facts-end f (a .s .now) at (via read (c .enum-told .given .1)))
 
-enum-known-step : tie.Need-enum-known-step Inv-loop μ-loop
-enum-known-step c = search needs
+enum-known-found : tie.Need-enum-known-found Inv-loop μ-loop
+enum-known-found c = search needs
 
 facts-with-requires : tie.Need-facts-with-requires Inv-loop μ-loop
 facts-with-requires c κs = search needs
@@ -55,7 +55,7 @@ loop-less c =
     let read = read-is (c .before .before .before .before .before .before .before .before .pre .0 .0)
     (c .before .before .before .before .before .before .before .before .pre .0 .1) (lineNumber (f .lines + 1)) at (a .s .now)
     (c .before .before .before .before .read-at .ensures) in
-    let took = facts-took f (a .s .now) at _ _ (via read (c .before .before .step .given .1)) in
+    let took = facts-took f (a .s .now) at _ _ (via read (c .before .before .found .given .1)) in
     omega (arith, took .1, took .2)
 
 loop-again : tie.Need-loop-again Inv-loop μ-loop
@@ -66,13 +66,13 @@ loop-again c =
     let read = read-is (c .before .before .before .before .before .before .before .before .pre .0 .0)
     (c .before .before .before .before .before .before .before .before .pre .0 .1) (lineNumber (f .lines + 1)) at (a .s .now)
     (c .before .before .before .before .read-at .ensures) in
-    let took = facts-took f (a .s .now) at _ _ (via read (c .before .before .step .given .1)) in
-    let l = c .before .before .step .given .0 .0 in
+    let took = facts-took f (a .s .now) at _ _ (via read (c .before .before .found .given .1)) in
+    let l = c .before .before .found .given .0 .0 in
     rw (c .facts-with .ensures)
     (c .before .before .before .before .before .before .loop .inv .0 ∙ took .0, omega (arith, with-lines f l, took .1), took .2)
 
-enum-known-step-2 : tie.Need-enum-known-step-2 Inv-loop μ-loop
-enum-known-step-2 c = search needs
+enum-known-found-2 : tie.Need-enum-known-found-2 Inv-loop μ-loop
+enum-known-found-2 c = search needs
 
 returns-2 : tie.Need-returns-2 Inv-loop μ-loop
 returns-2 c =
@@ -82,7 +82,7 @@ returns-2 c =
     let read = read-is (c .before .before .before .before .before .before .before .pre .0 .0)
     (c .before .before .before .before .before .before .before .pre .0 .1) (lineNumber (f .lines + 1)) at (a .s .now)
     (c .before .before .before .read-at .ensures) in
-    sym (c .before .before .before .before .before .loop .inv .0 ∙ facts-stop f (a .s .now) at _ (via read (c .before .step2 .given .1)))
+    sym (c .before .before .before .before .before .loop .inv .0 ∙ facts-stop f (a .s .now) at _ (via read (c .before .found2 .given .1)))
 
 pub facts-of-spec : {M : Type 1} → statement M
 facts-of-spec =
@@ -95,9 +95,9 @@ facts-of-spec =
     read-at-requires
     enum-told
     returns
-    enum-known-step
+    enum-known-found
     facts-with-requires
     loop-less
     loop-again
-    enum-known-step-2
+    enum-known-found-2
     returns-2)

@@ -25,8 +25,8 @@ end-requires-3 c κs = search needs
 enum-known-form : tie.Need-enum-known-form
 enum-known-form c = search needs
 
-step-requires : tie.Need-step-requires
-step-requires c κs = search needs
+follow-requires : tie.Need-follow-requires
+follow-requires c κs = search needs
 
 returns : tie.Need-returns
 unfolding repliedOf
@@ -42,7 +42,7 @@ returns-3 c = rw (c .before .enum-told3 .given .1) (c .end3 .ensures)
 
 returns-4 : tie.Need-returns-4
 unfolding repliedOf
-returns-4 c = rw (c .before .before .form .given .1) (c .step .ensures)
+returns-4 c = rw (c .before .before .form .given .1) (c .follow .ensures)
 
 pub replied-spec : {M : Type 1} → statement M
 replied-spec =
@@ -55,7 +55,7 @@ replied-spec =
     enum-told-3
     end-requires-3
     enum-known-form
-    step-requires
+    follow-requires
     returns
     returns-2
     returns-3

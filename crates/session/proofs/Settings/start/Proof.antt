@@ -14,14 +14,14 @@ new-requires c κs = search needs
 fresh-requires : tie.Need-fresh-requires
 fresh-requires c κs = search needs
 
-first-requires : tie.Need-first-requires
+first-request-requires : tie.Need-first-request-requires
 unfolding freshOf
-first-requires c κs = rw (c .fresh .ensures) (omega arith)
+first-request-requires c κs = rw (c .fresh .ensures) (omega arith)
 
 returns : tie.Need-returns
 unfolding startOf
-returns c = rw (c .first .ensures, c .before .fresh .ensures, c .before .before .new .ensures, c .before .before .before .first-write .ensures)
+returns c = rw (c .first-request .ensures, c .before .fresh .ensures, c .before .before .new .ensures, c .before .before .before .first-write .ensures)
 
 pub start-spec : {M : Type 1} → statement M
 start-spec =
-    tie.close (tie.spec first-write-requires new-requires fresh-requires first-requires returns)
+    tie.close (tie.spec first-write-requires new-requires fresh-requires first-request-requires returns)

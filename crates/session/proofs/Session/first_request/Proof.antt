@@ -5,8 +5,8 @@ use Rattle.session.specs.Moves.{putOf}
 use Rattle.session.specs.Begin.{firstOf}
 use Rattle.session.proofs.Tests.{chosen}
 use borrow.Author.Needs.{needs}
-use Rattle.session.proofs.Session.first.Statement.{statement}
-use Rattle.session.proofs.Session.first.Tie as tie
+use Rattle.session.proofs.Session.first_request.Statement.{statement}
+use Rattle.session.proofs.Session.first_request.Tie as tie
 
 point-requires : tie.Need-point-requires
 point-requires c κs = search needs
@@ -28,7 +28,7 @@ returns-2 : tie.Need-returns-2
 unfolding firstOf
 returns-2 c = c .put2 .ensures ∙ (ap (putOf _ _) (c .before .point2 .ensures) ∙ chosen _ false _ _ (c .before .before .if1 .left))
 
-pub first-spec : {M : Type 1} → statement M
-first-spec =
+pub first-request-spec : {M : Type 1} → statement M
+first-request-spec =
     tie.close
     (tie.spec point-requires put-requires point-requires-2 put-requires-2 returns returns-2)

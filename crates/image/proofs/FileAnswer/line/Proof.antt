@@ -1,7 +1,7 @@
 -- By the case. Assumes nothing.
 use borrow.Author.Needs.{needs}
-use Rattle.image.proofs.Answer.line.Statement.{statement}
-use Rattle.image.proofs.Answer.line.Tie as tie
+use Rattle.image.proofs.FileAnswer.line.Statement.{statement}
+use Rattle.image.proofs.FileAnswer.line.Tie as tie
 
 enum-told : tie.Need-enum-told
 enum-told c = search needs
