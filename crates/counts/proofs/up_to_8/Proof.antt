@@ -4,9 +4,6 @@ use Rattle.counts.proofs.Tests.{tests}
 use Rattle.counts.proofs.up_to_8.Statement.{statement}
 use Rattle.counts.proofs.up_to_8.Tie as tie
 
-cast-result : tie.Need-cast-result
-cast-result c = search needs
-
 returns : tie.Need-returns
 returns c = search tests
 
@@ -14,4 +11,4 @@ returns-2 : tie.Need-returns-2
 returns-2 c = search tests
 
 pub up-to-8-spec : {M : Type 1} → statement M
-up-to-8-spec = tie.close (tie.spec cast-result returns returns-2)
+up-to-8-spec = tie.close (tie.spec (λ c. search needs) returns returns-2)

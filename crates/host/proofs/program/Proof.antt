@@ -13,15 +13,6 @@ Inv-loop file handed₀ regulator₀ turn₀ handed regulator turn = turn ≤ 12
 abbrev μ-loop : tie.MeasureT-loop
 μ-loop file handed₀ regulator₀ turn₀ handed regulator turn = 12949 - turn
 
-begin-requires : tie.Need-begin-requires Inv-loop μ-loop
-begin-requires c κs = search needs
-
-loop-holds : tie.Need-loop-holds Inv-loop μ-loop
-loop-holds c = search needs
-
-exchange-requires : tie.Need-exchange-requires Inv-loop μ-loop
-exchange-requires c κs = search needs
-
 array-share-prefix-bytes : tie.Need-array-share-prefix-bytes Inv-loop μ-loop
 array-share-prefix-bytes c = rw (c .before .before .before .before .exchange .ensures) (reply-within _ _)
 
@@ -30,34 +21,19 @@ slice-aggregate-reply c =
     let carried = c .before .before .before .before .before .exchange in
     sym (length-take-le (carried .result .reply .count) (carried .result .reply .bytes) (rw (carried .ensures) (reply-within _ _)))
 
-reply-requires : tie.Need-reply-requires Inv-loop μ-loop
-reply-requires c κs = search needs
-
-add-turn : tie.Need-add-turn Inv-loop μ-loop
-add-turn c = search needs
-
-loop-less : tie.Need-loop-less Inv-loop μ-loop
-loop-less c = search needs
-
-loop-again : tie.Need-loop-again Inv-loop μ-loop
-loop-again c = search needs
-
-returns : tie.Need-returns Inv-loop μ-loop
-returns c = search needs
-
 pub program-spec : {M : Type 1} → statement M
 program-spec =
     tie.close
     (tie.spec
     Inv-loop
     μ-loop
-    begin-requires
-    loop-holds
-    exchange-requires
+    (λ c κs. search needs)
+    (λ c. search needs)
+    (λ c κs. search needs)
     array-share-prefix-bytes
     slice-aggregate-reply
-    reply-requires
-    add-turn
-    loop-less
-    loop-again
-    returns)
+    (λ c κs. search needs)
+    (λ c. search needs)
+    (λ c. search needs)
+    (λ c. search needs)
+    (λ c. search needs))

@@ -10,21 +10,6 @@ use borrow.Author.Needs.{needs}
 use Rattle.image.proofs.check.Statement.{statement}
 use Rattle.image.proofs.check.Tie as tie
 
-refused-by-requires : tie.Need-refused-by-requires
-refused-by-requires c κs = search needs
-
-digits-requires : tie.Need-digits-requires
-digits-requires c κs = search needs
-
-table-requires : tie.Need-table-requires
-table-requires c κs = search needs
-
-facts-of-requires : tie.Need-facts-of-requires
-facts-of-requires c κs = search needs
-
-on-told-requires : tie.Need-on-told-requires
-on-told-requires c κs = search needs
-
 returns : tie.Need-returns
 unfolding walkOf
 returns c =
@@ -45,10 +30,10 @@ pub check-spec : {M : Type 1} → statement M
 check-spec =
     tie.close
     (tie.spec
-    refused-by-requires
-    digits-requires
-    table-requires
-    facts-of-requires
-    on-told-requires
+    (λ c κs. search needs)
+    (λ c κs. search needs)
+    (λ c κs. search needs)
+    (λ c κs. search needs)
+    (λ c κs. search needs)
     returns
     returns-2)

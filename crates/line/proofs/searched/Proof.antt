@@ -12,24 +12,6 @@ use borrow.Author.Needs.{needs}
 use Rattle.line.proofs.searched.Statement.{statement}
 use Rattle.line.proofs.searched.Tie as tie
 
-run-end-requires : tie.Need-run-end-requires
-run-end-requires c κs = search needs
-
-end-at-requires : tie.Need-end-at-requires
-end-at-requires c κs = search needs
-
-enum-told : tie.Need-enum-told
-enum-told c = search needs
-
-enum-known-ending : tie.Need-enum-known-ending
-enum-known-ending c = search needs
-
-sub-read-digits : tie.Need-sub-read-digits
-sub-read-digits c = search needs
-
-part-read-digits-start : tie.Need-part-read-digits-start
-part-read-digits-start c = search needs
-
 part-read-digits-end : tie.Need-part-read-digits-end
 part-read-digits-end c =
     let a = c .before .before .before .before .before .before .args in
@@ -40,12 +22,6 @@ part-read-digits-end c =
       c .before .before .before .before .run-end .ensures,
       c .before .before .before .before .before .before .pre,
     )
-
-read-digits-requires : tie.Need-read-digits-requires
-read-digits-requires c κs = search needs
-
-next-by-requires : tie.Need-next-by-requires
-next-by-requires c κs = search needs
 
 returns : tie.Need-returns
 unfolding byEnding
@@ -69,14 +45,14 @@ pub searched-spec : {M : Type 1} → statement M
 searched-spec =
     tie.close
     (tie.spec
-    run-end-requires
-    end-at-requires
-    enum-told
-    enum-known-ending
-    sub-read-digits
-    part-read-digits-start
+    (λ c κs. search needs)
+    (λ c κs. search needs)
+    (λ c. search needs)
+    (λ c. search needs)
+    (λ c. search needs)
+    (λ c. search needs)
     part-read-digits-end
-    read-digits-requires
-    next-by-requires
+    (λ c κs. search needs)
+    (λ c κs. search needs)
     returns
     returns-2)

@@ -6,14 +6,8 @@ use borrow.Author.Needs.{needs}
 use Rattle.loader.proofs.tehilgam_refusal.Statement.{statement}
 use Rattle.loader.proofs.tehilgam_refusal.Tie as tie
 
-check-requires : tie.Need-check-requires
-check-requires c κs = search needs
-
-number-requires : tie.Need-number-requires
-number-requires c κs = search needs
-
 returns : tie.Need-returns
 returns c = c .number .ensures ∙ ap (λ (x : Checked). answerNumber (x .answer)) (c .before .check .ensures)
 
 pub tehilgam-refusal-spec : {M : Type 1} → statement M
-tehilgam-refusal-spec = tie.close (tie.spec check-requires number-requires returns)
+tehilgam-refusal-spec = tie.close (tie.spec (λ c κs. search needs) (λ c κs. search needs) returns)

@@ -4,18 +4,9 @@ use borrow.Author.Needs.{needs}
 use Rattle.measured.proofs.line_5_out.Statement.{statement}
 use Rattle.measured.proofs.line_5_out.Tie as tie
 
-check-requires : tie.Need-check-requires
-check-requires c κs = search needs
-
-none-requires : tie.Need-none-requires
-none-requires c κs = search needs
-
-skip-requires : tie.Need-skip-requires
-skip-requires c κs = search needs
-
 returns : tie.Need-returns
 unfolding lineFiveOut
 returns c = rw (c .before .none .ensures, c .skip .ensures, c .before .before .before .check .ensures)
 
 pub line-5-out-spec : {M : Type 1} → statement M
-line-5-out-spec = tie.close (tie.spec check-requires none-requires skip-requires returns)
+line-5-out-spec = tie.close (tie.spec (λ c κs. search needs) (λ c κs. search needs) (λ c κs. search needs) returns)

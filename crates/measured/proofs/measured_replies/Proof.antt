@@ -15,24 +15,9 @@ Inv-loop text replies s₀ i₀ s i = (i ≤ replies) × (s ≡ acknowledged tex
 abbrev μ-loop : tie.MeasureT-loop
 μ-loop text replies s₀ i₀ s i = replies - i
 
-line-5-out-requires : tie.Need-line-5-out-requires Inv-loop μ-loop
-line-5-out-requires c κs = search needs
-
 loop-holds : tie.Need-loop-holds Inv-loop μ-loop
 unfolding acknowledged
 loop-holds c = (search needs, c .line-5-out .ensures)
-
-slice-aggregate-reply : tie.Need-slice-aggregate-reply Inv-loop μ-loop
-slice-aggregate-reply c = search needs
-
-reply-requires : tie.Need-reply-requires Inv-loop μ-loop
-reply-requires c κs = search needs
-
-add-i : tie.Need-add-i Inv-loop μ-loop
-add-i c = search needs
-
-loop-less : tie.Need-loop-less Inv-loop μ-loop
-loop-less c = search needs
 
 loop-again : tie.Need-loop-again Inv-loop μ-loop
 unfolding acknowledged
@@ -51,11 +36,11 @@ measured-replies-spec =
     (tie.spec
     Inv-loop
     μ-loop
-    line-5-out-requires
+    (λ c κs. search needs)
     loop-holds
-    slice-aggregate-reply
-    reply-requires
-    add-i
-    loop-less
+    (λ c. search needs)
+    (λ c κs. search needs)
+    (λ c. search needs)
+    (λ c. search needs)
     loop-again
     returns)

@@ -5,12 +5,6 @@ use borrow.Author.Needs.{needs}
 use Rattle.pec.proofs.run.Statement.{statement}
 use Rattle.pec.proofs.run.Tie as tie
 
-table-requires : tie.Need-table-requires
-table-requires c κs = search needs
-
-run-with-requires : tie.Need-run-with-requires
-run-with-requires c κs = search needs
-
 returns : tie.Need-returns
 returns c =
     let start = c .before .before .before .before in
@@ -19,4 +13,4 @@ returns c =
     (λ i. c .before .before .before .shared-slice-known .given i .fits)
 
 pub run-spec : {M : Type 1} → statement M
-run-spec = tie.close (tie.spec table-requires run-with-requires returns)
+run-spec = tie.close (tie.spec (λ c κs. search needs) (λ c κs. search needs) returns)

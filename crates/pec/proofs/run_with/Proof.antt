@@ -19,18 +19,6 @@ loop-holds : tie.Need-loop-holds Inv-loop μ-loop
 unfolding runWith
 loop-holds c = (search needs, refl)
 
-shared-slice-read-step-with : tie.Need-shared-slice-read-step-with Inv-loop μ-loop
-shared-slice-read-step-with c = search needs
-
-step-with-requires : tie.Need-step-with-requires Inv-loop μ-loop
-step-with-requires c κs = search needs
-
-add-i : tie.Need-add-i Inv-loop μ-loop
-add-i c = search needs
-
-loop-less : tie.Need-loop-less Inv-loop μ-loop
-loop-less c = search needs
-
 loop-again : tie.Need-loop-again Inv-loop μ-loop
 loop-again c =
     let at-loop = c .before .before .before in
@@ -51,9 +39,9 @@ run-with-spec =
     Inv-loop
     μ-loop
     loop-holds
-    shared-slice-read-step-with
-    step-with-requires
-    add-i
-    loop-less
+    (λ c. search needs)
+    (λ c κs. search needs)
+    (λ c. search needs)
+    (λ c. search needs)
     loop-again
     returns)

@@ -5,12 +5,6 @@ use borrow.Author.Needs.{needs}
 use Rattle.pec.proofs.step.Statement.{statement}
 use Rattle.pec.proofs.step.Tie as tie
 
-table-requires : tie.Need-table-requires
-table-requires c κs = search needs
-
-step-with-requires : tie.Need-step-with-requires
-step-with-requires c κs = search needs
-
 returns : tie.Need-returns
 returns c =
     let start = c .before .before .before in
@@ -18,4 +12,4 @@ returns c =
     ∙ step-right (c .before .before .table .ensures) _ _ (start .fits .register .fits) (start .fits .byte .fits)
 
 pub step-spec : {M : Type 1} → statement M
-step-spec = tie.close (tie.spec table-requires step-with-requires returns)
+step-spec = tie.close (tie.spec (λ c κs. search needs) (λ c κs. search needs) returns)

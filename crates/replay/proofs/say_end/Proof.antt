@@ -7,9 +7,6 @@ use borrow.Author.Needs.{needs}
 use Rattle.replay.proofs.say_end.Statement.{statement}
 use Rattle.replay.proofs.say_end.Tie as tie
 
-put-report-requires : tie.Need-put-report-requires
-put-report-requires c κs = search needs
-
 array-share-prefix-line : tie.Need-array-share-prefix-line
 array-share-prefix-line c = omega (arith, puts-within (c .put-report .ensures) (omega arith), puts-length (c .put-report .ensures))
 
@@ -17,12 +14,6 @@ slice-aggregate-write-all : tie.Need-slice-aggregate-write-all
 slice-aggregate-write-all c =
     let put = c .before .put-report in
     sym (length-take-le (put .result) (put .last .0) (omega (arith, puts-within (put .ensures) (omega arith), puts-length (put .ensures))))
-
-write-all-requires : tie.Need-write-all-requires
-write-all-requires c κs = search needs
-
-put-count-requires : tie.Need-put-count-requires
-put-count-requires c κs = search needs
 
 array-share-prefix-line-2 : tie.Need-array-share-prefix-line-2
 array-share-prefix-line-2 c = omega (arith, puts-within (c .put-count .ensures) (omega arith), puts-length (c .put-count .ensures))
@@ -32,22 +23,16 @@ slice-aggregate-write-all-2 c =
     let put = c .before .put-count in
     sym (length-take-le (put .result) (put .last .0) (omega (arith, puts-within (put .ensures) (omega arith), puts-length (put .ensures))))
 
-write-all-requires-2 : tie.Need-write-all-requires-2
-write-all-requires-2 c κs = search needs
-
-returns : tie.Need-returns
-returns c = search needs
-
 pub say-end-spec : {M : Type 1} → statement M
 say-end-spec =
     tie.close
     (tie.spec
-    put-report-requires
+    (λ c κs. search needs)
     array-share-prefix-line
     slice-aggregate-write-all
-    write-all-requires
-    put-count-requires
+    (λ c κs. search needs)
+    (λ c κs. search needs)
     array-share-prefix-line-2
     slice-aggregate-write-all-2
-    write-all-requires-2
-    returns)
+    (λ c κs. search needs)
+    (λ c. search needs))

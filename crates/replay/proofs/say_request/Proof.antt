@@ -7,9 +7,6 @@ use borrow.Author.Needs.{needs}
 use Rattle.replay.proofs.say_request.Statement.{statement}
 use Rattle.replay.proofs.say_request.Tie as tie
 
-put-request-requires : tie.Need-put-request-requires
-put-request-requires c κs = search needs
-
 array-share-prefix-line : tie.Need-array-share-prefix-line
 array-share-prefix-line c = omega (arith, puts-within (c .put-request .ensures) (omega arith), puts-length (c .put-request .ensures))
 
@@ -18,22 +15,13 @@ slice-aggregate-write-all c =
     let put = c .before .put-request in
     sym (length-take-le (put .result) (put .last .0) (omega (arith, puts-within (put .ensures) (omega arith), puts-length (put .ensures))))
 
-write-all-requires : tie.Need-write-all-requires
-write-all-requires c κs = search needs
-
-returns : tie.Need-returns
-returns c = search needs
-
-returns-2 : tie.Need-returns-2
-returns-2 c = search needs
-
 pub say-request-spec : {M : Type 1} → statement M
 say-request-spec =
     tie.close
     (tie.spec
-    put-request-requires
+    (λ c κs. search needs)
     array-share-prefix-line
     slice-aggregate-write-all
-    write-all-requires
-    returns
-    returns-2)
+    (λ c κs. search needs)
+    (λ c. search needs)
+    (λ c. search needs))

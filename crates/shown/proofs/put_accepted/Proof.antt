@@ -7,18 +7,12 @@ use borrow.Author.Needs.{needs}
 use Rattle.shown.proofs.put_accepted.Statement.{statement}
 use Rattle.shown.proofs.put_accepted.Tie as tie
 
-put-head-requires : tie.Need-put-head-requires
-put-head-requires c κs = search needs
-
 put-rows-requires : tie.Need-put-rows-requires
 put-rows-requires c κs =
     let start = c .before .before .before .before .before .before in
     let head = c .before .before .before .put-head in
     let long = head-length (start .args .s) in
     (start .pre .0, omega (arith, long, puts-length (head .ensures), puts-place (head .ensures) (omega (arith, long, start .pre .1)), start .pre .1))
-
-same-length : tie.Need-same-length
-same-length c = search needs
 
 returns : tie.Need-returns
 unfolding acceptedText
@@ -28,4 +22,4 @@ returns c =
     (omega (arith, accepted-length (start .args .s) (start .pre .0), start .pre .1))
 
 pub put-accepted-spec : {M : Type 1} → statement M
-put-accepted-spec = tie.close (tie.spec put-head-requires put-rows-requires same-length returns)
+put-accepted-spec = tie.close (tie.spec (λ c κs. search needs) put-rows-requires (λ c. search needs) returns)

@@ -9,51 +9,6 @@ use borrow.Author.Needs.{needs}
 use Rattle.shown.proofs.put_head.Statement.{statement}
 use Rattle.shown.proofs.put_head.Tie as tie
 
-slice-aggregate-put-bytes : tie.Need-slice-aggregate-put-bytes
-slice-aggregate-put-bytes c = search needs
-
-put-bytes-requires : tie.Need-put-bytes-requires
-put-bytes-requires c κs = search needs
-
-put-kind-requires : tie.Need-put-kind-requires
-put-kind-requires c κs = search needs
-
-slice-aggregate-put-bytes-2 : tie.Need-slice-aggregate-put-bytes-2
-slice-aggregate-put-bytes-2 c = search needs
-
-put-bytes-requires-2 : tie.Need-put-bytes-requires-2
-put-bytes-requires-2 c κs = search needs
-
-put-hex8-requires : tie.Need-put-hex8-requires
-put-hex8-requires c κs = search needs
-
-slice-aggregate-put-bytes-3 : tie.Need-slice-aggregate-put-bytes-3
-slice-aggregate-put-bytes-3 c = search needs
-
-put-bytes-requires-3 : tie.Need-put-bytes-requires-3
-put-bytes-requires-3 c κs = search needs
-
-put-decimal-requires : tie.Need-put-decimal-requires
-put-decimal-requires c κs = search needs
-
-slice-aggregate-put-bytes-4 : tie.Need-slice-aggregate-put-bytes-4
-slice-aggregate-put-bytes-4 c = search needs
-
-put-bytes-requires-4 : tie.Need-put-bytes-requires-4
-put-bytes-requires-4 c κs = search needs
-
-cast-put-decimal : tie.Need-cast-put-decimal
-cast-put-decimal c = search needs
-
-put-decimal-requires-2 : tie.Need-put-decimal-requires-2
-put-decimal-requires-2 c κs = search needs
-
-slice-aggregate-put-bytes-5 : tie.Need-slice-aggregate-put-bytes-5
-slice-aggregate-put-bytes-5 c = search needs
-
-put-bytes-requires-5 : tie.Need-put-bytes-requires-5
-put-bytes-requires-5 c κs = search needs
-
 same-length : tie.Need-same-length
 same-length c =
     let end = c .before .before in
@@ -97,20 +52,20 @@ pub put-head-spec : {M : Type 1} → statement M
 put-head-spec =
     tie.close
     (tie.spec
-    slice-aggregate-put-bytes
-    put-bytes-requires
-    put-kind-requires
-    slice-aggregate-put-bytes-2
-    put-bytes-requires-2
-    put-hex8-requires
-    slice-aggregate-put-bytes-3
-    put-bytes-requires-3
-    put-decimal-requires
-    slice-aggregate-put-bytes-4
-    put-bytes-requires-4
-    cast-put-decimal
-    put-decimal-requires-2
-    slice-aggregate-put-bytes-5
-    put-bytes-requires-5
+    (λ c. search needs)
+    (λ c κs. search needs)
+    (λ c κs. search needs)
+    (λ c. search needs)
+    (λ c κs. search needs)
+    (λ c κs. search needs)
+    (λ c. search needs)
+    (λ c κs. search needs)
+    (λ c κs. search needs)
+    (λ c. search needs)
+    (λ c κs. search needs)
+    (λ c. search needs)
+    (λ c κs. search needs)
+    (λ c. search needs)
+    (λ c κs. search needs)
     same-length
     returns)

@@ -8,42 +8,6 @@ use borrow.Author.Needs.{needs}
 use Rattle.shown.proofs.put_refused.Statement.{statement}
 use Rattle.shown.proofs.put_refused.Tie as tie
 
-slice-aggregate-put-bytes : tie.Need-slice-aggregate-put-bytes
-slice-aggregate-put-bytes c = search needs
-
-put-bytes-requires : tie.Need-put-bytes-requires
-put-bytes-requires c κs = search needs
-
-number-requires : tie.Need-number-requires
-number-requires c κs = search needs
-
-cast-put-decimal : tie.Need-cast-put-decimal
-cast-put-decimal c = search needs
-
-put-decimal-requires : tie.Need-put-decimal-requires
-put-decimal-requires c κs = search needs
-
-slice-aggregate-put-bytes-2 : tie.Need-slice-aggregate-put-bytes-2
-slice-aggregate-put-bytes-2 c = search needs
-
-put-bytes-requires-2 : tie.Need-put-bytes-requires-2
-put-bytes-requires-2 c κs = search needs
-
-line-requires : tie.Need-line-requires
-line-requires c κs = search needs
-
-put-decimal-requires-2 : tie.Need-put-decimal-requires-2
-put-decimal-requires-2 c κs = search needs
-
-slice-aggregate-put-bytes-3 : tie.Need-slice-aggregate-put-bytes-3
-slice-aggregate-put-bytes-3 c = search needs
-
-put-bytes-requires-3 : tie.Need-put-bytes-requires-3
-put-bytes-requires-3 c κs = search needs
-
-same-length : tie.Need-same-length
-same-length c = search needs
-
 returns : tie.Need-returns
 unfolding refusedText bytesOf
 returns c =
@@ -67,16 +31,16 @@ pub put-refused-spec : {M : Type 1} → statement M
 put-refused-spec =
     tie.close
     (tie.spec
-    slice-aggregate-put-bytes
-    put-bytes-requires
-    number-requires
-    cast-put-decimal
-    put-decimal-requires
-    slice-aggregate-put-bytes-2
-    put-bytes-requires-2
-    line-requires
-    put-decimal-requires-2
-    slice-aggregate-put-bytes-3
-    put-bytes-requires-3
-    same-length
+    (λ c. search needs)
+    (λ c κs. search needs)
+    (λ c κs. search needs)
+    (λ c. search needs)
+    (λ c κs. search needs)
+    (λ c. search needs)
+    (λ c κs. search needs)
+    (λ c κs. search needs)
+    (λ c κs. search needs)
+    (λ c. search needs)
+    (λ c κs. search needs)
+    (λ c. search needs)
     returns)

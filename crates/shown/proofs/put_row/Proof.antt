@@ -7,27 +7,6 @@ use borrow.Author.Needs.{needs}
 use Rattle.shown.proofs.put_row.Statement.{statement}
 use Rattle.shown.proofs.put_row.Tie as tie
 
-put-hex1-requires : tie.Need-put-hex1-requires
-put-hex1-requires c κs = search needs
-
-slice-aggregate-put-bytes : tie.Need-slice-aggregate-put-bytes
-slice-aggregate-put-bytes c = search needs
-
-put-bytes-requires : tie.Need-put-bytes-requires
-put-bytes-requires c κs = search needs
-
-put-hex8-requires : tie.Need-put-hex8-requires
-put-hex8-requires c κs = search needs
-
-slice-aggregate-put-bytes-2 : tie.Need-slice-aggregate-put-bytes-2
-slice-aggregate-put-bytes-2 c = search needs
-
-put-bytes-requires-2 : tie.Need-put-bytes-requires-2
-put-bytes-requires-2 c κs = search needs
-
-same-length : tie.Need-same-length
-same-length c = search needs
-
 returns : tie.Need-returns
 unfolding rowOf
 returns c =
@@ -46,11 +25,11 @@ pub put-row-spec : {M : Type 1} → statement M
 put-row-spec =
     tie.close
     (tie.spec
-    put-hex1-requires
-    slice-aggregate-put-bytes
-    put-bytes-requires
-    put-hex8-requires
-    slice-aggregate-put-bytes-2
-    put-bytes-requires-2
-    same-length
+    (λ c κs. search needs)
+    (λ c. search needs)
+    (λ c κs. search needs)
+    (λ c κs. search needs)
+    (λ c. search needs)
+    (λ c κs. search needs)
+    (λ c. search needs)
     returns)

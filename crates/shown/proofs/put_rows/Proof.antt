@@ -21,30 +21,12 @@ loop-holds : tie.Need-loop-holds Inv-loop μ-loop
 unfolding rowsTo
 loop-holds c = (search needs, puts-none (c .before .before .before .args .out .now) (c .before .before .before .args .at))
 
-cast-if1 : tie.Need-cast-if1 Inv-loop μ-loop
-cast-if1 c = search needs
-
-array-copy-out-put-row : tie.Need-array-copy-out-put-row Inv-loop μ-loop
-array-copy-out-put-row c = search needs
-
-mul-put-row : tie.Need-mul-put-row Inv-loop μ-loop
-mul-put-row c = search needs
-
-array-read-put-row : tie.Need-array-read-put-row Inv-loop μ-loop
-array-read-put-row c = search needs
-
 put-row-requires : tie.Need-put-row-requires Inv-loop μ-loop
 put-row-requires c κs =
     let start = c .before .before .before .before .before .before .before .before in
     let loop = c .before .before .before .before .loop in
     let long = rows-length (start .args .s) (loop .n) in
     omega (arith, long, puts-length (loop .inv .1), puts-place (loop .inv .1) (omega (arith, long)))
-
-add-n : tie.Need-add-n Inv-loop μ-loop
-add-n c = search needs
-
-loop-less : tie.Need-loop-less Inv-loop μ-loop
-loop-less c = search needs
 
 loop-again : tie.Need-loop-again Inv-loop μ-loop
 unfolding rowsTo
@@ -69,13 +51,13 @@ put-rows-spec =
     Inv-loop
     μ-loop
     loop-holds
-    cast-if1
-    array-copy-out-put-row
-    mul-put-row
-    array-read-put-row
+    (λ c. search needs)
+    (λ c. search needs)
+    (λ c. search needs)
+    (λ c. search needs)
     put-row-requires
-    add-n
-    loop-less
+    (λ c. search needs)
+    (λ c. search needs)
     loop-again
     same-length
     returns)

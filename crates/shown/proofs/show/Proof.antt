@@ -9,24 +9,12 @@ use borrow.Author.Needs.{needs}
 use Rattle.shown.proofs.show.Statement.{statement}
 use Rattle.shown.proofs.show.Tie as tie
 
-check-requires : tie.Need-check-requires
-check-requires c κs = search needs
-
-enum-told : tie.Need-enum-told
-enum-told c = search needs
-
 put-accepted-requires : tie.Need-put-accepted-requires
 put-accepted-requires c κs =
     let text = c .before .before .before .before .before .before .args .text .now in
     let checked = c .before .before .before .before .check .ensures in
     let accepted : checkOf text .answer ≡ Accepted = ap (λ (x : Checked). x .answer) (sym checked) ∙ c .before .enum-told .given .1 in
     (rw checked (sound text accepted .few), search needs)
-
-enum-known-answer : tie.Need-enum-known-answer
-enum-known-answer c = search needs
-
-put-refused-requires : tie.Need-put-refused-requires
-put-refused-requires c κs = search needs
 
 returns : tie.Need-returns
 unfolding shown answerText
@@ -40,10 +28,10 @@ pub show-spec : {M : Type 1} → statement M
 show-spec =
     tie.close
     (tie.spec
-    check-requires
-    enum-told
+    (λ c κs. search needs)
+    (λ c. search needs)
     put-accepted-requires
-    enum-known-answer
-    put-refused-requires
+    (λ c. search needs)
+    (λ c κs. search needs)
     returns
     returns-2)

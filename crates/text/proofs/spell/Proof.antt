@@ -22,25 +22,10 @@ loop-holds c =
     let out = c .before .args .out .now in
     (search needs, refl, rw (drop-of-length-le out {i = length out} (omega arith), append-nil))
 
-sub-i : tie.Need-sub-i Inv-loop μ-loop
-sub-i c = search needs
-
-rem-digit-glyph : tie.Need-rem-digit-glyph Inv-loop μ-loop
-rem-digit-glyph c = search needs
-
 digit-glyph-requires : tie.Need-digit-glyph-requires Inv-loop μ-loop
 digit-glyph-requires c κs =
     let start = c .before .before .before in
     omega (arith, mod-lt (c .before .loop .rest) {m = start .args .base} (search needs))
-
-slice-write-out : tie.Need-slice-write-out Inv-loop μ-loop
-slice-write-out c = search needs
-
-div-rest : tie.Need-div-rest Inv-loop μ-loop
-div-rest c = search needs
-
-loop-less : tie.Need-loop-less Inv-loop μ-loop
-loop-less c = search needs
 
 loop-again : tie.Need-loop-again Inv-loop μ-loop
 loop-again c =
@@ -49,9 +34,6 @@ loop-again c =
     let more : 0 < loop .i = search needs in
     let within : loop .i ≤ length (loop .out) = search needs in
     (search needs, simp length-set (loop .inv .1), loop .inv .2 ∙ rw (c .digit-glyph .ensures) (digits-turn base (loop .i) (loop .rest) (loop .out) more within))
-
-same-length : tie.Need-same-length Inv-loop μ-loop
-same-length c = search needs
 
 returns : tie.Need-returns Inv-loop μ-loop
 unfolding digits
@@ -67,12 +49,12 @@ spell-spec =
     Inv-loop
     μ-loop
     loop-holds
-    sub-i
-    rem-digit-glyph
+    (λ c. search needs)
+    (λ c. search needs)
     digit-glyph-requires
-    slice-write-out
-    div-rest
-    loop-less
+    (λ c. search needs)
+    (λ c. search needs)
+    (λ c. search needs)
     loop-again
-    same-length
+    (λ c. search needs)
     returns)

@@ -5,18 +5,6 @@ use borrow.Author.Needs.{needs}
 use Rattle.counts.proofs.Kind.configs.Statement.{statement}
 use Rattle.counts.proofs.Kind.configs.Tie as tie
 
-enum-told : tie.Need-enum-told
-enum-told c = search needs
-
-up-to-8-requires : tie.Need-up-to-8-requires
-up-to-8-requires c κs = search needs
-
-enum-told-2 : tie.Need-enum-told-2
-enum-told-2 c = search needs
-
-up-to-8-requires-2 : tie.Need-up-to-8-requires-2
-up-to-8-requires-2 c κs = search needs
-
 returns : tie.Need-returns
 unfolding configsOf
 returns c = rw (c .before .before .enum-told .given .1) (simp (eq-eqb _ _ (c .before .if1 .taken)) (c .up-to-8 .ensures))
@@ -37,10 +25,10 @@ pub configs-spec : {M : Type 1} → statement M
 configs-spec =
     tie.close
     (tie.spec
-    enum-told
-    up-to-8-requires
-    enum-told-2
-    up-to-8-requires-2
+    (λ c. search needs)
+    (λ c κs. search needs)
+    (λ c. search needs)
+    (λ c κs. search needs)
     returns
     returns-2
     returns-3

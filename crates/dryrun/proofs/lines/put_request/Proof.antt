@@ -7,24 +7,12 @@ use borrow.Author.Needs.{needs}
 use Rattle.dryrun.proofs.lines.put_request.Statement.{statement}
 use Rattle.dryrun.proofs.lines.put_request.Tie as tie
 
-put-verb-requires : tie.Need-put-verb-requires
-put-verb-requires c κs = search needs
-
-at-most-8-requires : tie.Need-at-most-8-requires
-at-most-8-requires c κs = search needs
-
 put-used-requires : tie.Need-put-used-requires
 put-used-requires c κs =
     let put = c .before .before .put-verb .ensures in
     let q = c .before .before .before .before .before .args .q in
     let short = verb-length (q .reads) in
     (omega (arith, c .at-most-8 .ensures, at-most-8 (q .used)), omega (arith, short, puts-length put, puts-place put (omega (arith, short))))
-
-slice-aggregate-put-bytes : tie.Need-slice-aggregate-put-bytes
-slice-aggregate-put-bytes c = search needs
-
-put-bytes-requires : tie.Need-put-bytes-requires
-put-bytes-requires c κs = search needs
 
 returns : tie.Need-returns
 unfolding requestLine
@@ -40,9 +28,9 @@ pub put-request-spec : {M : Type 1} → statement M
 put-request-spec =
     tie.close
     (tie.spec
-    put-verb-requires
-    at-most-8-requires
+    (λ c κs. search needs)
+    (λ c κs. search needs)
     put-used-requires
-    slice-aggregate-put-bytes
-    put-bytes-requires
+    (λ c. search needs)
+    (λ c κs. search needs)
     returns)

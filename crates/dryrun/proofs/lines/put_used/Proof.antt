@@ -22,18 +22,6 @@ loop-holds : tie.Need-loop-holds Inv-loop μ-loop
 unfolding usedHex
 loop-holds c = (search needs, puts-none (c .before .args .out .now) (c .before .args .at))
 
-array-read-put-hex2 : tie.Need-array-read-put-hex2 Inv-loop μ-loop
-array-read-put-hex2 c = search needs
-
-put-hex2-requires : tie.Need-put-hex2-requires Inv-loop μ-loop
-put-hex2-requires c κs = search needs
-
-add-i : tie.Need-add-i Inv-loop μ-loop
-add-i c = search needs
-
-loop-less : tie.Need-loop-less Inv-loop μ-loop
-loop-less c = search needs
-
 loop-again : tie.Need-loop-again Inv-loop μ-loop
 unfolding usedHex
 loop-again c =
@@ -62,10 +50,10 @@ put-used-spec =
     Inv-loop
     μ-loop
     loop-holds
-    array-read-put-hex2
-    put-hex2-requires
-    add-i
-    loop-less
+    (λ c. search needs)
+    (λ c κs. search needs)
+    (λ c. search needs)
+    (λ c. search needs)
     loop-again
     same-length
     returns)

@@ -9,22 +9,13 @@ returns : tie.Need-returns
 unfolding inputOf
 returns c = rw (lt-ltb _ _ (c .if1 .taken))
 
-file-length-requires : tie.Need-file-length-requires
-file-length-requires c κs = search needs
-
 returns-2 : tie.Need-returns-2
 unfolding inputOf
 returns-2 c = rw (le-ltb _ _ (c .before .before .if1 .left), ← c .before .file-length .ensures, lt-ltb _ _ (c .if2 .taken))
 
-add-if3 : tie.Need-add-if3
-add-if3 c = search needs
-
 returns-3 : tie.Need-returns-3
 unfolding inputOf
 returns-3 c = rw (le-ltb _ _ (c .before .before .before .if1 .left), ← c .before .before .file-length .ensures, le-ltb _ _ (c .before .if2 .left), lt-ltb _ _ (c .if3 .taken))
-
-sub-if4 : tie.Need-sub-if4
-sub-if4 c = search needs
 
 returns-4 : tie.Need-returns-4
 unfolding inputOf
@@ -35,15 +26,6 @@ returns-4 c = rw (
   le-ltb _ _ (c .before .if3 .left),
   lt-ltb _ _ (c .if4 .taken),
 )
-
-add-replies-whole : tie.Need-add-replies-whole
-add-replies-whole c = search needs
-
-replies-whole-requires : tie.Need-replies-whole-requires
-replies-whole-requires c κs = search needs
-
-header-requires : tie.Need-header-requires
-header-requires c κs = search needs
 
 returns-5 : tie.Need-returns-5
 unfolding inputOf
@@ -75,14 +57,14 @@ parse-spec =
     tie.close
     (tie.spec
     returns
-    file-length-requires
+    (λ c κs. search needs)
     returns-2
-    add-if3
+    (λ c. search needs)
     returns-3
-    sub-if4
+    (λ c. search needs)
     returns-4
-    add-replies-whole
-    replies-whole-requires
-    header-requires
+    (λ c. search needs)
+    (λ c κs. search needs)
+    (λ c κs. search needs)
     returns-5
     returns-6)

@@ -17,15 +17,6 @@ abbrev μ-loop : tie.MeasureT-loop
 loop-holds : tie.Need-loop-holds Inv-loop μ-loop
 loop-holds c = refl
 
-sub-left : tie.Need-sub-left Inv-loop μ-loop
-sub-left c = search needs
-
-reply-at-requires : tie.Need-reply-at-requires Inv-loop μ-loop
-reply-at-requires c κs = search needs
-
-enum-told : tie.Need-enum-told Inv-loop μ-loop
-enum-told c = search needs
-
 returns : tie.Need-returns Inv-loop μ-loop
 unfolding wholeBy
 returns c =
@@ -33,21 +24,12 @@ returns c =
     let some : 0 < loop .left = search needs in
     sym (loop .inv ∙ (whole-step (loop .left) _ (loop .at) some ∙ rw (← c .before .before .reply-at .ensures, c .enum-told .given .1)))
 
-enum-known-found : tie.Need-enum-known-found Inv-loop μ-loop
-enum-known-found c = search needs
-
-loop-less : tie.Need-loop-less Inv-loop μ-loop
-loop-less c = search needs
-
 loop-again : tie.Need-loop-again Inv-loop μ-loop
 unfolding wholeBy
 loop-again c =
     let loop = c .before .before .before .before .before .loop in
     let some : 0 < loop .left = search needs in
     loop .inv ∙ (whole-step (loop .left) _ (loop .at) some ∙ rw (← c .before .before .before .reply-at .ensures, c .before .found .given .1))
-
-enum-told-2 : tie.Need-enum-told-2 Inv-loop μ-loop
-enum-told-2 c = search needs
 
 returns-2 : tie.Need-returns-2 Inv-loop μ-loop
 unfolding wholeBy
@@ -70,13 +52,13 @@ replies-whole-spec =
     Inv-loop
     μ-loop
     loop-holds
-    sub-left
-    reply-at-requires
-    enum-told
+    (λ c. search needs)
+    (λ c κs. search needs)
+    (λ c. search needs)
     returns
-    enum-known-found
-    loop-less
+    (λ c. search needs)
+    (λ c. search needs)
     loop-again
-    enum-told-2
+    (λ c. search needs)
     returns-2
     returns-3)

@@ -5,15 +5,9 @@ use borrow.Author.Needs.{needs}
 use Rattle.dryrun.proofs.parts.two.Statement.{statement}
 use Rattle.dryrun.proofs.parts.two.Tie as tie
 
-mul-result : tie.Need-mul-result
-mul-result c = search needs
-
-add-result : tie.Need-add-result
-add-result c = search needs
-
 returns : tie.Need-returns
 unfolding pair
 returns c = refl
 
 pub two-spec : {M : Type 1} → statement M
-two-spec = tie.close (tie.spec mul-result add-result returns)
+two-spec = tie.close (tie.spec (λ c. search needs) (λ c. search needs) returns)

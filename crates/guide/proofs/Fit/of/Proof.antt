@@ -10,12 +10,6 @@ returns : tie.Need-returns
 unfolding fitOf
 returns c = simp (lt-ltb _ _ (c .if1 .taken))
 
-kind-wanted-requires : tie.Need-kind-wanted-requires
-kind-wanted-requires c κs = search needs
-
-fit-kind-requires : tie.Need-fit-kind-requires
-fit-kind-requires c κs = search needs
-
 returns-2 : tie.Need-returns-2
 unfolding fitOf
 returns-2 c =
@@ -27,4 +21,4 @@ unfolding fitOf
 returns-3 c = simp (le-ltb _ _ (c .before .if1 .left), ne-eqb _ _ (c .if2 .left))
 
 pub of-spec : {M : Type 1} → statement M
-of-spec = tie.close (tie.spec returns kind-wanted-requires fit-kind-requires returns-2 returns-3)
+of-spec = tie.close (tie.spec returns (λ c κs. search needs) (λ c κs. search needs) returns-2 returns-3)

@@ -6,21 +6,9 @@ use borrow.Author.Needs.{needs}
 use Rattle.guide.proofs.fits.fit_kind.Statement.{statement}
 use Rattle.guide.proofs.fits.fit_kind.Tie as tie
 
-enum-told : tie.Need-enum-told
-enum-told c = search needs
-
-enum-known-wanted : tie.Need-enum-known-wanted
-enum-known-wanted c = search needs
-
 returns : tie.Need-returns
 unfolding fitKind
 returns c = simp (c .before .before .wanted .given .1, lt-ltb _ _ (c .if1 .taken))
-
-same-kind-requires : tie.Need-same-kind-requires
-same-kind-requires c κs = search needs
-
-add-if3 : tie.Need-add-if3
-add-if3 c = search needs
 
 returns-2 : tie.Need-returns-2
 unfolding fitKind
@@ -56,11 +44,11 @@ pub fit-kind-spec : {M : Type 1} → statement M
 fit-kind-spec =
     tie.close
     (tie.spec
-    enum-told
-    enum-known-wanted
+    (λ c. search needs)
+    (λ c. search needs)
     returns
-    same-kind-requires
-    add-if3
+    (λ c κs. search needs)
+    (λ c. search needs)
     returns-2
     returns-3
     returns-4

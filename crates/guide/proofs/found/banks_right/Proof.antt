@@ -4,11 +4,8 @@ use borrow.Author.Needs.{needs}
 use Rattle.guide.proofs.found.banks_right.Statement.{statement}
 use Rattle.guide.proofs.found.banks_right.Tie as tie
 
-banks-word-requires : tie.Need-banks-word-requires
-banks-word-requires c κs = search needs
-
 returns : tie.Need-returns
 returns c = sym (c .banks-word .ensures _ (search needs))
 
 pub banks-right-spec : {M : Type 1} → statement M
-banks-right-spec = tie.close (tie.spec banks-word-requires returns)
+banks-right-spec = tie.close (tie.spec (λ c κs. search needs) returns)

@@ -11,21 +11,6 @@ use borrow.Author.Needs.{needs}
 use Rattle.guide.proofs.words.line_request.Statement.{statement}
 use Rattle.guide.proofs.words.line_request.Tie as tie
 
-laid-requires : tie.Need-laid-requires
-laid-requires c κs = search needs
-
-laid-requires-2 : tie.Need-laid-requires-2
-laid-requires-2 c κs = search needs
-
-laid-requires-3 : tie.Need-laid-requires-3
-laid-requires-3 c κs = search needs
-
-laid-requires-4 : tie.Need-laid-requires-4
-laid-requires-4 c κs = search needs
-
-laid-requires-5 : tie.Need-laid-requires-5
-laid-requires-5 c κs = search needs
-
 all-four : (l : Line) → 4 ≤ l .count → lineData l ≡ l .d0 ∷ l .d1 ∷ l .d2 ∷ l .d3 ∷ []
 unfolding lineData
 all-four l h = take-all (l .count) (l .d0 ∷ l .d1 ∷ l .d2 ∷ l .d3 ∷ []) h
@@ -54,11 +39,11 @@ pub line-request-spec : {M : Type 1} → statement M
 line-request-spec =
     tie.close
     (tie.spec
-    laid-requires
-    laid-requires-2
-    laid-requires-3
-    laid-requires-4
-    laid-requires-5
+    (λ c κs. search needs)
+    (λ c κs. search needs)
+    (λ c κs. search needs)
+    (λ c κs. search needs)
+    (λ c κs. search needs)
     returns
     returns-2
     returns-3

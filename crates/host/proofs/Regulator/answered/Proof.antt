@@ -6,25 +6,13 @@ use borrow.Author.Needs.{needs}
 use Rattle.host.proofs.Regulator.answered.Statement.{statement}
 use Rattle.host.proofs.Regulator.answered.Tie as tie
 
-silent-requires : tie.Need-silent-requires
-silent-requires c κs = search needs
-
 returns : tie.Need-returns
 unfolding replyOf
 returns c = search tests
 
-array-read-read : tie.Need-array-read-read
-array-read-read c = search needs
-
-read-requires : tie.Need-read-requires
-read-requires c κs = search needs
-
 returns-2 : tie.Need-returns-2
 unfolding replyOf
 returns-2 c = simp (ne-eqb _ _ (c .before .before .before .if1 .left), c .before .before .if2 .taken) (c .read .ensures)
-
-took-requires : tie.Need-took-requires
-took-requires c κs = search needs
 
 returns-3 : tie.Need-returns-3
 unfolding replyOf
@@ -34,10 +22,10 @@ pub answered-spec : {M : Type 1} → statement M
 answered-spec =
     tie.close
     (tie.spec
-    silent-requires
+    (λ c κs. search needs)
     returns
-    array-read-read
-    read-requires
+    (λ c. search needs)
+    (λ c κs. search needs)
     returns-2
-    took-requires
+    (λ c κs. search needs)
     returns-3)

@@ -7,25 +7,13 @@ use borrow.Author.Needs.{needs}
 use Rattle.host.proofs.Regulator.read.Statement.{statement}
 use Rattle.host.proofs.Regulator.read.Tie as tie
 
-block-requires : tie.Need-block-requires
-block-requires c κs = search needs
-
 returns : tie.Need-returns
 unfolding readReply
 returns c = search tests
 
-block-requires-2 : tie.Need-block-requires-2
-block-requires-2 c κs = search needs
-
 returns-2 : tie.Need-returns-2
 unfolding readReply
 returns-2 c = search tests
-
-value-requires : tie.Need-value-requires
-value-requires c κs = search needs
-
-word-requires : tie.Need-word-requires
-word-requires c κs = search needs
 
 returns-3 : tie.Need-returns-3
 unfolding readReply
@@ -35,10 +23,10 @@ pub read-spec : {M : Type 1} → statement M
 read-spec =
     tie.close
     (tie.spec
-    block-requires
+    (λ c κs. search needs)
     returns
-    block-requires-2
+    (λ c κs. search needs)
     returns-2
-    value-requires
-    word-requires
+    (λ c κs. search needs)
+    (λ c κs. search needs)
     returns-3)

@@ -5,27 +5,9 @@ use borrow.Author.Needs.{needs}
 use Rattle.host.proofs.Reply.word.Statement.{statement}
 use Rattle.host.proofs.Reply.word.Tie as tie
 
-cast-a : tie.Need-cast-a
-cast-a c = search needs
-
-cast-b : tie.Need-cast-b
-cast-b c = search needs
-
-cast-c : tie.Need-cast-c
-cast-c c = search needs
-
-cast-d : tie.Need-cast-d
-cast-d c = search needs
-
-slice-aggregate-of : tie.Need-slice-aggregate-of
-slice-aggregate-of c = search needs
-
-of-requires : tie.Need-of-requires
-of-requires c κs = search needs
-
 returns : tie.Need-returns
 unfolding wordReply wordBytes
 returns c = rw (c .of .ensures)
 
 pub word-spec : {M : Type 1} → statement M
-word-spec = tie.close (tie.spec cast-a cast-b cast-c cast-d slice-aggregate-of of-requires returns)
+word-spec = tie.close (tie.spec (λ c. search needs) (λ c. search needs) (λ c. search needs) (λ c. search needs) (λ c. search needs) (λ c κs. search needs) returns)

@@ -6,16 +6,10 @@ use borrow.Author.Needs.{needs}
 use Rattle.image.proofs.config_lines.line_at.Statement.{statement}
 use Rattle.image.proofs.config_lines.line_at.Tie as tie
 
-read-at-requires : tie.Need-read-at-requires
-read-at-requires c κs = search needs
-
-line-in-requires : tie.Need-line-in-requires
-line-in-requires c κs = search needs
-
 returns : tie.Need-returns
 returns c =
     let a = c .before .before .before .args in
     c .line-in .ensures ∙ ap lineIn (read-is (c .before .before .before .pre .0) (c .before .before .before .pre .1) (a .n) (a .at) (a .s .now) (c .before .read-at .ensures))
 
 pub line-at-spec : {M : Type 1} → statement M
-line-at-spec = tie.close (tie.spec read-at-requires line-in-requires returns)
+line-at-spec = tie.close (tie.spec (λ c κs. search needs) (λ c κs. search needs) returns)

@@ -4,15 +4,6 @@ use borrow.Author.Needs.{needs}
 use Rattle.image.proofs.config_lines.line_in.Statement.{statement}
 use Rattle.image.proofs.config_lines.line_in.Tie as tie
 
-enum-told : tie.Need-enum-told
-enum-told c = search needs
-
-enum-known-found : tie.Need-enum-known-found
-enum-known-found c = search needs
-
-enum-told-2 : tie.Need-enum-told-2
-enum-told-2 c = search needs
-
 returns : tie.Need-returns
 unfolding lineIn
 returns c = rw (c .enum-told .given .1)
@@ -27,4 +18,4 @@ returns-3 c = rw (c .enum-told2 .given .1)
 
 pub line-in-spec : {M : Type 1} → statement M
 line-in-spec =
-    tie.close (tie.spec enum-told enum-known-found enum-told-2 returns returns-2 returns-3)
+    tie.close (tie.spec (λ c. search needs) (λ c. search needs) (λ c. search needs) returns returns-2 returns-3)

@@ -5,12 +5,6 @@ use borrow.Author.Needs.{needs}
 use Rattle.image.proofs.config_lines.off_spot.Statement.{statement}
 use Rattle.image.proofs.config_lines.off_spot.Tie as tie
 
-is-c6-requires : tie.Need-is-c6-requires
-is-c6-requires c κs = search needs
-
-is-c6-requires-2 : tie.Need-is-c6-requires-2
-is-c6-requires-2 c κs = search needs
-
 returns : tie.Need-returns
 unfolding offSpot
 returns c = rw (via (c .before .before .is-c6 .ensures) (c .before .if1 .taken), c .is-c62 .ensures)
@@ -20,4 +14,4 @@ unfolding offSpot
 returns-2 c = rw (via (c .before .is-c6 .ensures) (c .if1 .left))
 
 pub off-spot-spec : {M : Type 1} → statement M
-off-spot-spec = tie.close (tie.spec is-c6-requires is-c6-requires-2 returns returns-2)
+off-spot-spec = tie.close (tie.spec (λ c κs. search needs) (λ c κs. search needs) returns returns-2)

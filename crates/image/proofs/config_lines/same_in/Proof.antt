@@ -31,18 +31,6 @@ loop-holds : tie.Need-loop-holds Inv-loop μ-loop Inv-pairs μ-pairs
 unfolding sameAt someBelow
 loop-holds c = (c .before .pairs .inv .0, refl, omega arith)
 
-array-copy-out-a : tie.Need-array-copy-out-a Inv-loop μ-loop Inv-pairs μ-pairs
-array-copy-out-a c = search needs
-
-array-copy-out-b : tie.Need-array-copy-out-b Inv-loop μ-loop Inv-pairs μ-pairs
-array-copy-out-b c = search needs
-
-add-j : tie.Need-add-j Inv-loop μ-loop Inv-pairs μ-pairs
-add-j c = search needs
-
-loop-less : tie.Need-loop-less Inv-loop μ-loop Inv-pairs μ-pairs
-loop-less c = search needs
-
 loop-again : tie.Need-loop-again Inv-loop μ-loop Inv-pairs μ-pairs
 loop-again c = (
   c .before .before .before .before .before .before .loop .inv .0,
@@ -51,12 +39,6 @@ loop-again c = (
       (c .before .before .before .before .before .before .loop .inv .1) (ne-eqb _ _ (c .if1 .left)),
   omega arith,
 )
-
-add-i : tie.Need-add-i Inv-loop μ-loop Inv-pairs μ-pairs
-add-i c = search needs
-
-pairs-less : tie.Need-pairs-less Inv-loop μ-loop Inv-pairs μ-pairs
-pairs-less c = search needs
 
 pairs-again : tie.Need-pairs-again Inv-loop μ-loop Inv-pairs μ-pairs
 pairs-again c =
@@ -82,13 +64,13 @@ same-in-spec =
     μ-pairs
     pairs-holds
     loop-holds
-    array-copy-out-a
-    array-copy-out-b
-    add-j
-    loop-less
+    (λ c. search needs)
+    (λ c. search needs)
+    (λ c. search needs)
+    (λ c. search needs)
     loop-again
-    add-i
-    pairs-less
+    (λ c. search needs)
+    (λ c. search needs)
     pairs-again
     returns
     returns-2)

@@ -18,21 +18,12 @@ Inv-loop digits table s kind k spots₀ at₀ n₀ spots at n = (spots ≡ spots
 abbrev μ-loop : tie.MeasureT-loop
 μ-loop digits table s kind k spots₀ at₀ n₀ spots at n = k - n
 
-no-spots-requires : tie.Need-no-spots-requires Inv-loop μ-loop
-no-spots-requires c κs = search needs
-
 loop-holds : tie.Need-loop-holds Inv-loop μ-loop
 unfolding spotsTo
 loop-holds c = (c .no-spots .ensures, place-start (c .before .before .args .kind) (c .before .before .args .s .now), omega arith)
 
 spots-with-requires : tie.Need-spots-with-requires Inv-loop μ-loop
 spots-with-requires c κs = (c .before .before .before .before .pre .0, omega arith, c .before .loop .inv .1)
-
-add-n : tie.Need-add-n Inv-loop μ-loop
-add-n c = search needs
-
-loop-less : tie.Need-loop-less Inv-loop μ-loop
-loop-less c = search needs
 
 loop-again : tie.Need-loop-again Inv-loop μ-loop
 unfolding spotsTo
@@ -51,10 +42,10 @@ spots-of-spec =
     (tie.spec
     Inv-loop
     μ-loop
-    no-spots-requires
+    (λ c κs. search needs)
     loop-holds
     spots-with-requires
-    add-n
-    loop-less
+    (λ c. search needs)
+    (λ c. search needs)
     loop-again
     returns)

@@ -16,56 +16,8 @@ use borrow.Author.Needs.{needs}
 use Rattle.image.proofs.config_lines.spots_with.Statement.{statement}
 use Rattle.image.proofs.config_lines.spots_with.Tie as tie
 
-cast-t15 : tie.Need-cast-t15
-cast-t15 c = search needs
-
-skip-requires : tie.Need-skip-requires
-skip-requires c κs = search needs
-
-identifier-line-requires : tie.Need-identifier-line-requires
-identifier-line-requires c κs = search needs
-
-line-at-requires : tie.Need-line-at-requires
-line-at-requires c κs = search needs
-
-lines-to-crc-requires : tie.Need-lines-to-crc-requires
-lines-to-crc-requires c κs = search needs
-
-cast-skip : tie.Need-cast-skip
-cast-skip c = search needs
-
-skip-requires-2 : tie.Need-skip-requires-2
-skip-requires-2 c κs = search needs
-
-crc-line-requires : tie.Need-crc-line-requires
-crc-line-requires c κs = search needs
-
-line-at-requires-2 : tie.Need-line-at-requires-2
-line-at-requires-2 c κs = search needs
-
-lines-behind-crc-requires : tie.Need-lines-behind-crc-requires
-lines-behind-crc-requires c κs = search needs
-
-cast-skip-2 : tie.Need-cast-skip-2
-cast-skip-2 c = search needs
-
-skip-requires-3 : tie.Need-skip-requires-3
-skip-requires-3 c κs = search needs
-
-off-spot-requires : tie.Need-off-spot-requires
-off-spot-requires c κs = search needs
-
-either-requires : tie.Need-either-requires
-either-requires c κs = search needs
-
-id-of-requires : tie.Need-id-of-requires
-id-of-requires c κs = search needs
-
 element-set-from-more : tie.Need-element-set-from-more
 element-set-from-more c = c .before .before .before .before .before .before .before .before .before .before .before .before .before .pre .1
-
-crc-of-requires : tie.Need-crc-of-requires
-crc-of-requires c κs = search needs
 
 mul-more : tie.Need-mul-more
 mul-more c = omega (arith, c .before .before .before .before .before .before .before .before .before .before .before .before .before .before .pre .1)
@@ -116,23 +68,23 @@ pub spots-with-spec : {M : Type 1} → statement M
 spots-with-spec =
     tie.close
     (tie.spec
-    cast-t15
-    skip-requires
-    identifier-line-requires
-    line-at-requires
-    lines-to-crc-requires
-    cast-skip
-    skip-requires-2
-    crc-line-requires
-    line-at-requires-2
-    lines-behind-crc-requires
-    cast-skip-2
-    skip-requires-3
-    off-spot-requires
-    either-requires
-    id-of-requires
+    (λ c. search needs)
+    (λ c κs. search needs)
+    (λ c κs. search needs)
+    (λ c κs. search needs)
+    (λ c κs. search needs)
+    (λ c. search needs)
+    (λ c κs. search needs)
+    (λ c κs. search needs)
+    (λ c κs. search needs)
+    (λ c κs. search needs)
+    (λ c. search needs)
+    (λ c κs. search needs)
+    (λ c κs. search needs)
+    (λ c κs. search needs)
+    (λ c κs. search needs)
     element-set-from-more
-    crc-of-requires
+    (λ c κs. search needs)
     mul-more
     element-write-more
     returns)

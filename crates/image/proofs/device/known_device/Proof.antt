@@ -6,12 +6,6 @@ use borrow.Author.Needs.{needs}
 use Rattle.image.proofs.device.known_device.Statement.{statement}
 use Rattle.image.proofs.device.known_device.Tie as tie
 
-slice-aggregate-is-in : tie.Need-slice-aggregate-is-in
-slice-aggregate-is-in c = search needs
-
-is-in-requires : tie.Need-is-in-requires
-is-in-requires c κs = search needs
-
 returns : tie.Need-returns
 unfolding knownDevice
 returns c = simp (
@@ -34,4 +28,4 @@ returns-4 c = search tests
 
 pub known-device-spec : {M : Type 1} → statement M
 known-device-spec =
-    tie.close (tie.spec slice-aggregate-is-in is-in-requires returns returns-2 returns-3 returns-4)
+    tie.close (tie.spec (λ c. search needs) (λ c κs. search needs) returns returns-2 returns-3 returns-4)

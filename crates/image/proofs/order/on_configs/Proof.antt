@@ -7,27 +7,6 @@ use borrow.Author.Needs.{needs}
 use Rattle.image.proofs.order.on_configs.Statement.{statement}
 use Rattle.image.proofs.order.on_configs.Tie as tie
 
-refused-by-requires : tie.Need-refused-by-requires
-refused-by-requires c κs = search needs
-
-burn-amiss-requires : tie.Need-burn-amiss-requires
-burn-amiss-requires c κs = search needs
-
-refused-by-requires-2 : tie.Need-refused-by-requires-2
-refused-by-requires-2 c κs = search needs
-
-beyond-requires : tie.Need-beyond-requires
-beyond-requires c κs = search needs
-
-refused-by-requires-3 : tie.Need-refused-by-requires-3
-refused-by-requires-3 c κs = search needs
-
-spots-of-requires : tie.Need-spots-of-requires
-spots-of-requires c κs = search needs
-
-on-spots-requires : tie.Need-on-spots-requires
-on-spots-requires c κs = search needs
-
 returns : tie.Need-returns
 unfolding onConfigs
 returns c = rw (eq-eqb _ _ (c .before .if1 .taken)) (c .refused-by .ensures)
@@ -62,13 +41,13 @@ pub on-configs-spec : {M : Type 1} → statement M
 on-configs-spec =
     tie.close
     (tie.spec
-    refused-by-requires
-    burn-amiss-requires
-    refused-by-requires-2
-    beyond-requires
-    refused-by-requires-3
-    spots-of-requires
-    on-spots-requires
+    (λ c κs. search needs)
+    (λ c κs. search needs)
+    (λ c κs. search needs)
+    (λ c κs. search needs)
+    (λ c κs. search needs)
+    (λ c κs. search needs)
+    (λ c κs. search needs)
     returns
     returns-2
     returns-3

@@ -11,21 +11,6 @@ use borrow.Author.Needs.{needs}
 use Rattle.image.proofs.order.on_facts.Statement.{statement}
 use Rattle.image.proofs.order.on_facts.Tie as tie
 
-refused-by-requires : tie.Need-refused-by-requires
-refused-by-requires c κs = search needs
-
-skip-requires : tie.Need-skip-requires
-skip-requires c κs = search needs
-
-line-at-requires : tie.Need-line-at-requires
-line-at-requires c κs = search needs
-
-of-revision-requires : tie.Need-of-revision-requires
-of-revision-requires c κs = search needs
-
-on-kind-requires : tie.Need-on-kind-requires
-on-kind-requires c κs = search needs
-
 returns : tie.Need-returns
 unfolding onFacts
 returns c = rw (lt-ltb _ _ (c .before .if1 .taken)) (c .refused-by .ensures)
@@ -44,10 +29,10 @@ pub on-facts-spec : {M : Type 1} → statement M
 on-facts-spec =
     tie.close
     (tie.spec
-    refused-by-requires
-    skip-requires
-    line-at-requires
-    of-revision-requires
-    on-kind-requires
+    (λ c κs. search needs)
+    (λ c κs. search needs)
+    (λ c κs. search needs)
+    (λ c κs. search needs)
+    (λ c κs. search needs)
     returns
     returns-2)

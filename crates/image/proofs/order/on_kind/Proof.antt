@@ -9,24 +9,6 @@ use borrow.Author.Needs.{needs}
 use Rattle.image.proofs.order.on_kind.Statement.{statement}
 use Rattle.image.proofs.order.on_kind.Tie as tie
 
-enum-told : tie.Need-enum-told
-enum-told c = search needs
-
-refused-by-requires : tie.Need-refused-by-requires
-refused-by-requires c κs = search needs
-
-enum-known-found : tie.Need-enum-known-found
-enum-known-found c = search needs
-
-line-at-requires : tie.Need-line-at-requires
-line-at-requires c κs = search needs
-
-known-device-requires : tie.Need-known-device-requires
-known-device-requires c κs = search needs
-
-configs-requires : tie.Need-configs-requires
-configs-requires c κs = search needs
-
 on-configs-requires : tie.Need-on-configs-requires
 on-configs-requires c κs = (
   c .before .before .before .before .before .before .before .before .pre,
@@ -38,9 +20,6 @@ on-configs-requires c κs = (
         (c .before .before .before .before .before .before .before .before .args .f .lines),
   ),
 )
-
-refused-by-requires-2 : tie.Need-refused-by-requires-2
-refused-by-requires-2 c κs = search needs
 
 returns : tie.Need-returns
 unfolding onKind
@@ -65,14 +44,14 @@ pub on-kind-spec : {M : Type 1} → statement M
 on-kind-spec =
     tie.close
     (tie.spec
-    enum-told
-    refused-by-requires
-    enum-known-found
-    line-at-requires
-    known-device-requires
-    configs-requires
+    (λ c. search needs)
+    (λ c κs. search needs)
+    (λ c. search needs)
+    (λ c κs. search needs)
+    (λ c κs. search needs)
+    (λ c κs. search needs)
     on-configs-requires
-    refused-by-requires-2
+    (λ c κs. search needs)
     returns
     returns-2
     returns-3)

@@ -12,24 +12,6 @@ use borrow.Author.Needs.{needs}
 use Rattle.image.proofs.order.on_spots.Statement.{statement}
 use Rattle.image.proofs.order.on_spots.Tie as tie
 
-same-in-requires : tie.Need-same-in-requires
-same-in-requires c κs = search needs
-
-refused-by-requires : tie.Need-refused-by-requires
-refused-by-requires c κs = search needs
-
-refused-by-requires-2 : tie.Need-refused-by-requires-2
-refused-by-requires-2 c κs = search needs
-
-line-at-requires : tie.Need-line-at-requires
-line-at-requires c κs = search needs
-
-identity-of-requires : tie.Need-identity-of-requires
-identity-of-requires c κs = search needs
-
-skip-requires : tie.Need-skip-requires
-skip-requires c κs = search needs
-
 returns : tie.Need-returns
 unfolding onSpots
 returns c =
@@ -57,12 +39,12 @@ pub on-spots-spec : {M : Type 1} → statement M
 on-spots-spec =
     tie.close
     (tie.spec
-    same-in-requires
-    refused-by-requires
-    refused-by-requires-2
-    line-at-requires
-    identity-of-requires
-    skip-requires
+    (λ c κs. search needs)
+    (λ c κs. search needs)
+    (λ c κs. search needs)
+    (λ c κs. search needs)
+    (λ c κs. search needs)
+    (λ c κs. search needs)
     returns
     returns-2
     returns-3)

@@ -4,18 +4,6 @@ use borrow.Author.Needs.{needs}
 use Rattle.image.proofs.order.on_told.Statement.{statement}
 use Rattle.image.proofs.order.on_told.Tie as tie
 
-enum-known-told : tie.Need-enum-known-told
-enum-known-told c = search needs
-
-on-facts-requires : tie.Need-on-facts-requires
-on-facts-requires c κs = search needs
-
-enum-known-told-2 : tie.Need-enum-known-told-2
-enum-known-told-2 c = search needs
-
-refused-by-requires : tie.Need-refused-by-requires
-refused-by-requires c κs = search needs
-
 returns : tie.Need-returns
 unfolding onTold
 returns c = rw (c .before .before .told .given .1) (c .on-facts .ensures)
@@ -28,9 +16,9 @@ pub on-told-spec : {M : Type 1} → statement M
 on-told-spec =
     tie.close
     (tie.spec
-    enum-known-told
-    on-facts-requires
-    enum-known-told-2
-    refused-by-requires
+    (λ c. search needs)
+    (λ c κs. search needs)
+    (λ c. search needs)
+    (λ c κs. search needs)
     returns
     returns-2)

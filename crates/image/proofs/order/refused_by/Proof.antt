@@ -4,12 +4,9 @@ use borrow.Author.Needs.{needs}
 use Rattle.image.proofs.order.refused_by.Statement.{statement}
 use Rattle.image.proofs.order.refused_by.Tie as tie
 
-none-requires : tie.Need-none-requires
-none-requires c κs = search needs
-
 returns : tie.Need-returns
 unfolding refusedBy
 returns c = rw (c .none .ensures)
 
 pub refused-by-spec : {M : Type 1} → statement M
-refused-by-spec = tie.close (tie.spec none-requires returns)
+refused-by-spec = tie.close (tie.spec (λ c κs. search needs) returns)

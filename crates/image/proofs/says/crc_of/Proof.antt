@@ -4,12 +4,9 @@ use borrow.Author.Needs.{needs}
 use Rattle.image.proofs.says.crc_of.Statement.{statement}
 use Rattle.image.proofs.says.crc_of.Tie as tie
 
-word-requires : tie.Need-word-requires
-word-requires c κs = search needs
-
 returns : tie.Need-returns
 unfolding crcOf
 returns c = c .word .ensures
 
 pub crc-of-spec : {M : Type 1} → statement M
-crc-of-spec = tie.close (tie.spec word-requires returns)
+crc-of-spec = tie.close (tie.spec (λ c κs. search needs) returns)

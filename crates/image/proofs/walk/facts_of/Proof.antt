@@ -23,15 +23,6 @@ loop-holds : tie.Need-loop-holds Inv-loop μ-loop
 unfolding start
 loop-holds c = (refl, omega arith, omega arith)
 
-add-t11 : tie.Need-add-t11 Inv-loop μ-loop
-add-t11 c = search needs
-
-read-at-requires : tie.Need-read-at-requires Inv-loop μ-loop
-read-at-requires c κs = search needs
-
-enum-told : tie.Need-enum-told Inv-loop μ-loop
-enum-told c = search needs
-
 returns : tie.Need-returns Inv-loop μ-loop
 returns c =
     let a = c .before .before .before .before .before .before .args in
@@ -40,12 +31,6 @@ returns c =
     let read = read-is (c .before .before .before .before .before .before .pre .0 .0) (c .before .before .before .before .before .before .pre .0 .1)
     (lineNumber (f .lines + 1)) at (a .s .now) (c .before .before .read-at .ensures) in
     sym (c .before .before .before .before .loop .inv .0 ∙ facts-end f (a .s .now) at (via read (c .enum-told .given .1)))
-
-enum-known-found : tie.Need-enum-known-found Inv-loop μ-loop
-enum-known-found c = search needs
-
-facts-with-requires : tie.Need-facts-with-requires Inv-loop μ-loop
-facts-with-requires c κs = search needs
 
 loop-less : tie.Need-loop-less Inv-loop μ-loop
 loop-less c =
@@ -71,9 +56,6 @@ loop-again c =
     rw (c .facts-with .ensures)
     (c .before .before .before .before .before .before .loop .inv .0 ∙ took .0, omega (arith, with-lines f l, took .1), took .2)
 
-enum-known-found-2 : tie.Need-enum-known-found-2 Inv-loop μ-loop
-enum-known-found-2 c = search needs
-
 returns-2 : tie.Need-returns-2 Inv-loop μ-loop
 returns-2 c =
     let a = c .before .before .before .before .before .before .before .args in
@@ -91,13 +73,13 @@ facts-of-spec =
     Inv-loop
     μ-loop
     loop-holds
-    add-t11
-    read-at-requires
-    enum-told
+    (λ c. search needs)
+    (λ c κs. search needs)
+    (λ c. search needs)
     returns
-    enum-known-found
-    facts-with-requires
+    (λ c. search needs)
+    (λ c κs. search needs)
     loop-less
     loop-again
-    enum-known-found-2
+    (λ c. search needs)
     returns-2)

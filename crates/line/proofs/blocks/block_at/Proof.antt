@@ -10,9 +10,6 @@ use borrow.Author.Needs.{needs}
 use Rattle.line.proofs.blocks.block_at.Statement.{statement}
 use Rattle.line.proofs.blocks.block_at.Tie as tie
 
-sub-result : tie.Need-sub-result
-sub-result c = search needs
-
 returns : tie.Need-returns
 returns c =
     let a = c .before .args in
@@ -25,4 +22,4 @@ returns-2 : tie.Need-returns-2
 returns-2 c = sym (lt-leb (c .before .args .i + 128) (length (c .before .args .s .now)) (omega arith))
 
 pub block-at-spec : {M : Type 1} → statement M
-block-at-spec = tie.close (tie.spec sub-result returns returns-2)
+block-at-spec = tie.close (tie.spec (λ c. search needs) returns returns-2)

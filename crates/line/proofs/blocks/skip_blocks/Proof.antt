@@ -21,21 +21,12 @@ abbrev μ-loop : tie.MeasureT-loop
 loop-holds : tie.Need-loop-holds Inv-loop μ-loop
 loop-holds c = refl
 
-block-at-requires : tie.Need-block-at-requires Inv-loop μ-loop
-block-at-requires c κs = search needs
-
 add-ends-in : tie.Need-add-ends-in Inv-loop μ-loop
 add-ends-in c =
     let s = c .before .before .before .before .args .s .now in
     let i = c .before .before .loop .i in
     let h : i + 128 ≤ length s = leb-true (i + 128) (length s) (via (c .before .block-at .ensures) (c .if1 .taken)) in
     omega arith
-
-sub-ends-in : tie.Need-sub-ends-in Inv-loop μ-loop
-sub-ends-in c = search needs
-
-part-ends-in-start : tie.Need-part-ends-in-start Inv-loop μ-loop
-part-ends-in-start c = search needs
 
 part-ends-in-end : tie.Need-part-ends-in-end Inv-loop μ-loop
 part-ends-in-end c =
@@ -47,14 +38,8 @@ part-ends-in-end c =
 ends-in-requires : tie.Need-ends-in-requires Inv-loop μ-loop
 ends-in-requires c κs = simp length-take (omega arith)
 
-cast-ends : tie.Need-cast-ends Inv-loop μ-loop
-cast-ends c = search needs
-
 returns : tie.Need-returns Inv-loop μ-loop
 returns c = c .before .before .before .before .before .loop .inv
-
-sub-left : tie.Need-sub-left Inv-loop μ-loop
-sub-left c = search needs
 
 add-i : tie.Need-add-i Inv-loop μ-loop
 add-i c =
@@ -89,15 +74,15 @@ skip-blocks-spec =
     Inv-loop
     μ-loop
     loop-holds
-    block-at-requires
+    (λ c κs. search needs)
     add-ends-in
-    sub-ends-in
-    part-ends-in-start
+    (λ c. search needs)
+    (λ c. search needs)
     part-ends-in-end
     ends-in-requires
-    cast-ends
+    (λ c. search needs)
     returns
-    sub-left
+    (λ c. search needs)
     add-i
     loop-less
     loop-again

@@ -11,28 +11,10 @@ use borrow.Author.Needs.{needs}
 use Rattle.line.proofs.scan.end_at.Statement.{statement}
 use Rattle.line.proofs.scan.end_at.Tie as tie
 
-shared-slice-read-b : tie.Need-shared-slice-read-b
-shared-slice-read-b c = search needs
-
-add-t11 : tie.Need-add-t11
-add-t11 c = search needs
-
 returns : tie.Need-returns
 unfolding endingOf
 returns c = rw (drop-at1 (c .before .before .before .before .args .s .now) (c .before .before .before .before .args .e)
     (c .before .before .if1 .taken)) (simp (eq-eqb _ _ (c .if2 .taken)))
-
-add-byte-at : tie.Need-add-byte-at
-add-byte-at c = search needs
-
-byte-at-requires : tie.Need-byte-at-requires
-byte-at-requires c κs = search needs
-
-cr-lf-requires : tie.Need-cr-lf-requires
-cr-lf-requires c κs = search needs
-
-add-t15 : tie.Need-add-t15
-add-t15 c = search needs
 
 returns-2 : tie.Need-returns-2
 unfolding endingOf
@@ -60,13 +42,13 @@ pub end-at-spec : {M : Type 1} → statement M
 end-at-spec =
     tie.close
     (tie.spec
-    shared-slice-read-b
-    add-t11
+    (λ c. search needs)
+    (λ c. search needs)
     returns
-    add-byte-at
-    byte-at-requires
-    cr-lf-requires
-    add-t15
+    (λ c. search needs)
+    (λ c κs. search needs)
+    (λ c κs. search needs)
+    (λ c. search needs)
     returns-2
     returns-3
     returns-4)

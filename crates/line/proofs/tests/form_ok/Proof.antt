@@ -5,12 +5,6 @@ use borrow.Author.Needs.{needs}
 use Rattle.line.proofs.tests.form_ok.Statement.{statement}
 use Rattle.line.proofs.tests.form_ok.Tie as tie
 
-head-ok-requires : tie.Need-head-ok-requires
-head-ok-requires c κs = search needs
-
-body-ok-requires : tie.Need-body-ok-requires
-body-ok-requires c κs = search needs
-
 returns : tie.Need-returns
 unfolding formOk
 returns c = search tests
@@ -34,4 +28,4 @@ returns-5 c = search tests
 pub form-ok-spec : {M : Type 1} → statement M
 form-ok-spec =
     tie.close
-    (tie.spec head-ok-requires body-ok-requires returns returns-2 returns-3 returns-4 returns-5)
+    (tie.spec (λ c κs. search needs) (λ c κs. search needs) returns returns-2 returns-3 returns-4 returns-5)

@@ -5,12 +5,6 @@ use borrow.Author.Needs.{needs}
 use Rattle.line.proofs.tests.head_ok.Statement.{statement}
 use Rattle.line.proofs.tests.head_ok.Tie as tie
 
-some-to-32-requires : tie.Need-some-to-32-requires
-some-to-32-requires c κs = search needs
-
-some-to-32-requires-2 : tie.Need-some-to-32-requires-2
-some-to-32-requires-2 c κs = search needs
-
 returns : tie.Need-returns
 unfolding headOk
 returns c = search tests
@@ -47,8 +41,8 @@ pub head-ok-spec : {M : Type 1} → statement M
 head-ok-spec =
     tie.close
     (tie.spec
-    some-to-32-requires
-    some-to-32-requires-2
+    (λ c κs. search needs)
+    (λ c κs. search needs)
     returns
     returns-2
     returns-3

@@ -6,15 +6,6 @@ use borrow.Author.Needs.{needs}
 use Rattle.line.proofs.tests.length_right.Statement.{statement}
 use Rattle.line.proofs.tests.length_right.Tie as tie
 
-value-at-requires : tie.Need-value-at-requires
-value-at-requires c κs = search needs
-
-cast-result : tie.Need-cast-result
-cast-result c = search needs
-
-add-result : tie.Need-add-result
-add-result c = search needs
-
 returns : tie.Need-returns
 unfolding lengthRight
 returns c =
@@ -22,4 +13,4 @@ returns c =
     rw (values-length (digitBy (a .digits .now)) (a .t .now), ← c .value-at .ensures)
 
 pub length-right-spec : {M : Type 1} → statement M
-length-right-spec = tie.close (tie.spec value-at-requires cast-result add-result returns)
+length-right-spec = tie.close (tie.spec (λ c κs. search needs) (λ c. search needs) (λ c. search needs) returns)

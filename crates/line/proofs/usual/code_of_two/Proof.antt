@@ -4,18 +4,6 @@ use borrow.Author.Needs.{needs}
 use Rattle.line.proofs.usual.code_of_two.Statement.{statement}
 use Rattle.line.proofs.usual.code_of_two.Tie as tie
 
-step-with-requires : tie.Need-step-with-requires
-step-with-requires c κs = search needs
-
-step-with-requires-2 : tie.Need-step-with-requires-2
-step-with-requires-2 c κs = search needs
-
-step-with-requires-3 : tie.Need-step-with-requires-3
-step-with-requires-3 c κs = search needs
-
-step-with-requires-4 : tie.Need-step-with-requires-4
-step-with-requires-4 c κs = search needs
-
 returns : tie.Need-returns
 unfolding runWith
 returns c = cc
@@ -24,8 +12,8 @@ pub code-of-two-spec : {M : Type 1} → statement M
 code-of-two-spec =
     tie.close
     (tie.spec
-    step-with-requires
-    step-with-requires-2
-    step-with-requires-3
-    step-with-requires-4
+    (λ c κs. search needs)
+    (λ c κs. search needs)
+    (λ c κs. search needs)
+    (λ c κs. search needs)
     returns)

@@ -11,27 +11,6 @@ use borrow.Author.Needs.{needs}
 use Rattle.line.proofs.usual.ends_run.Statement.{statement}
 use Rattle.line.proofs.usual.ends_run.Tie as tie
 
-sub-all-digits : tie.Need-sub-all-digits
-sub-all-digits c = search needs
-
-part-all-digits-start : tie.Need-part-all-digits-start
-part-all-digits-start c = search needs
-
-part-all-digits-end : tie.Need-part-all-digits-end
-part-all-digits-end c = search needs
-
-all-digits-requires : tie.Need-all-digits-requires
-all-digits-requires c κs = search needs
-
-shared-slice-read-digit : tie.Need-shared-slice-read-digit
-shared-slice-read-digit c = search needs
-
-digit-requires : tie.Need-digit-requires
-digit-requires c κs = search needs
-
-end-at-requires : tie.Need-end-at-requires
-end-at-requires c κs = search needs
-
 returns : tie.Need-returns
 unfolding endsRun
 returns c =
@@ -54,13 +33,13 @@ pub ends-run-spec : {M : Type 1} → statement M
 ends-run-spec =
     tie.close
     (tie.spec
-    sub-all-digits
-    part-all-digits-start
-    part-all-digits-end
-    all-digits-requires
-    shared-slice-read-digit
-    digit-requires
-    end-at-requires
+    (λ c. search needs)
+    (λ c. search needs)
+    (λ c. search needs)
+    (λ c κs. search needs)
+    (λ c. search needs)
+    (λ c κs. search needs)
+    (λ c κs. search needs)
     returns
     returns-2
     returns-3)

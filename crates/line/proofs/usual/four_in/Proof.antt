@@ -6,33 +6,6 @@ use borrow.Author.Needs.{needs}
 use Rattle.line.proofs.usual.four_in.Statement.{statement}
 use Rattle.line.proofs.usual.four_in.Tie as tie
 
-value-at-requires : tie.Need-value-at-requires
-value-at-requires c κs = search needs
-
-value-at-requires-2 : tie.Need-value-at-requires-2
-value-at-requires-2 c κs = search needs
-
-value-at-requires-3 : tie.Need-value-at-requires-3
-value-at-requires-3 c κs = search needs
-
-value-at-requires-4 : tie.Need-value-at-requires-4
-value-at-requires-4 c κs = search needs
-
-value-at-requires-5 : tie.Need-value-at-requires-5
-value-at-requires-5 c κs = search needs
-
-value-at-requires-6 : tie.Need-value-at-requires-6
-value-at-requires-6 c κs = search needs
-
-headed-requires : tie.Need-headed-requires
-headed-requires c κs = search needs
-
-body-ok-requires : tie.Need-body-ok-requires
-body-ok-requires c κs = search needs
-
-code-of-four-requires : tie.Need-code-of-four-requires
-code-of-four-requires c κs = search needs
-
 returns : tie.Need-returns
 returns c =
     let a = c .before .before .before .before .before .before .before .before .before .before .before .before .before .args in
@@ -48,29 +21,20 @@ returns c =
     (c .before .before .before .before .before .before .before .value-at5 .ensures)
     (c .before .before .before .before .before .before .value-at6 .ensures) (c .if3 .taken ∙ c .before .code-of-four .ensures)
 
-returns-2 : tie.Need-returns-2
-returns-2 c = search needs
-
-returns-3 : tie.Need-returns-3
-returns-3 c = search needs
-
-returns-4 : tie.Need-returns-4
-returns-4 c = search needs
-
 pub four-in-spec : {M : Type 1} → statement M
 four-in-spec =
     tie.close
     (tie.spec
-    value-at-requires
-    value-at-requires-2
-    value-at-requires-3
-    value-at-requires-4
-    value-at-requires-5
-    value-at-requires-6
-    headed-requires
-    body-ok-requires
-    code-of-four-requires
+    (λ c κs. search needs)
+    (λ c κs. search needs)
+    (λ c κs. search needs)
+    (λ c κs. search needs)
+    (λ c κs. search needs)
+    (λ c κs. search needs)
+    (λ c κs. search needs)
+    (λ c κs. search needs)
+    (λ c κs. search needs)
     returns
-    returns-2
-    returns-3
-    returns-4)
+    (λ c. search needs)
+    (λ c. search needs)
+    (λ c. search needs))

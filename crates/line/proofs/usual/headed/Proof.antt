@@ -5,15 +5,6 @@ use borrow.Author.Needs.{needs}
 use Rattle.line.proofs.usual.headed.Statement.{statement}
 use Rattle.line.proofs.usual.headed.Tie as tie
 
-value-at-requires : tie.Need-value-at-requires
-value-at-requires c κs = search needs
-
-value-at-requires-2 : tie.Need-value-at-requires-2
-value-at-requires-2 c κs = search needs
-
-value-at-requires-3 : tie.Need-value-at-requires-3
-value-at-requires-3 c κs = search needs
-
 returns : tie.Need-returns
 unfolding headed
 returns c = rw (← c .before .before .before .before .value-at .ensures, ← c .before .before .value-at2 .ensures, ← c .value-at3 .ensures) (search tests)
@@ -30,9 +21,9 @@ pub headed-spec : {M : Type 1} → statement M
 headed-spec =
     tie.close
     (tie.spec
-    value-at-requires
-    value-at-requires-2
-    value-at-requires-3
+    (λ c κs. search needs)
+    (λ c κs. search needs)
+    (λ c κs. search needs)
     returns
     returns-2
     returns-3)

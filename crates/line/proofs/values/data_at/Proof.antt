@@ -9,15 +9,6 @@ use borrow.Author.Needs.{needs}
 use Rattle.line.proofs.values.data_at.Statement.{statement}
 use Rattle.line.proofs.values.data_at.Tie as tie
 
-add-if1 : tie.Need-add-if1
-add-if1 c = search needs
-
-add-value-at : tie.Need-add-value-at
-add-value-at c = search needs
-
-value-at-requires : tie.Need-value-at-requires
-value-at-requires c κs = search needs
-
 returns : tie.Need-returns
 returns c =
     let a = c .before .before .before .args in
@@ -33,4 +24,4 @@ returns-2 c =
     sym (slice-past v 4 (length v - 1) (a .i) (omega arith) (omega arith))
 
 pub data-at-spec : {M : Type 1} → statement M
-data-at-spec = tie.close (tie.spec add-if1 add-value-at value-at-requires returns returns-2)
+data-at-spec = tie.close (tie.spec (λ c. search needs) (λ c. search needs) (λ c κs. search needs) returns returns-2)

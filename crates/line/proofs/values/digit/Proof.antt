@@ -5,12 +5,9 @@ use borrow.Author.Needs.{needs}
 use Rattle.line.proofs.values.digit.Statement.{statement}
 use Rattle.line.proofs.values.digit.Tie as tie
 
-element-copy-out-result : tie.Need-element-copy-out-result
-element-copy-out-result c = search needs
-
 returns : tie.Need-returns
 unfolding digitBy
 returns c = rw (lt-ltb (c .before .args .b) 256 (search needs))
 
 pub digit-spec : {M : Type 1} → statement M
-digit-spec = tie.close (tie.spec element-copy-out-result returns)
+digit-spec = tie.close (tie.spec (λ c. search needs) returns)

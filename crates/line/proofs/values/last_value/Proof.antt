@@ -9,9 +9,6 @@ use borrow.Author.Needs.{needs}
 use Rattle.line.proofs.values.last_value.Statement.{statement}
 use Rattle.line.proofs.values.last_value.Tie as tie
 
-value-at-requires : tie.Need-value-at-requires
-value-at-requires c κs = search needs
-
 returns : tie.Need-returns
 returns c =
     let a = c .before .before .args in
@@ -24,4 +21,4 @@ returns-2 c =
     rw (values-length (digitBy (a .digits .now)) (a .t .now)) (c .value-at .ensures)
 
 pub last-value-spec : {M : Type 1} → statement M
-last-value-spec = tie.close (tie.spec value-at-requires returns returns-2)
+last-value-spec = tie.close (tie.spec (λ c κs. search needs) returns returns-2)

@@ -4,12 +4,9 @@ use borrow.Author.Needs.{needs}
 use Rattle.session.proofs.Session.bad.Statement.{statement}
 use Rattle.session.proofs.Session.bad.Tie as tie
 
-none-requires : tie.Need-none-requires
-none-requires c κs = search needs
-
 returns : tie.Need-returns
 unfolding badOf
 returns c = rw (c .none .ensures)
 
 pub bad-spec : {M : Type 1} → statement M
-bad-spec = tie.close (tie.spec none-requires returns)
+bad-spec = tie.close (tie.spec (λ c κs. search needs) returns)

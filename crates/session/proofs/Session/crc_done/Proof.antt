@@ -6,27 +6,6 @@ use borrow.Author.Needs.{needs}
 use Rattle.session.proofs.Session.crc_done.Statement.{statement}
 use Rattle.session.proofs.Session.crc_done.Tie as tie
 
-cast-i : tie.Need-cast-i
-cast-i c = search needs
-
-mul-if1 : tie.Need-mul-if1
-mul-if1 c = search needs
-
-array-read-if1 : tie.Need-array-read-if1
-array-read-if1 c = search needs
-
-add-next : tie.Need-add-next
-add-next c = search needs
-
-restore-requires : tie.Need-restore-requires
-restore-requires c κs = search needs
-
-end-requires : tie.Need-end-requires
-end-requires c κs = search needs
-
-end-requires-2 : tie.Need-end-requires-2
-end-requires-2 c κs = search needs
-
 returns : tie.Need-returns
 unfolding crcDoneOf restoreNextOf crcIn
 returns c = simp (eq-eqb _ _ (c .before .before .before .before .if1 .taken), lt-ltb _ _ (c .before .if2 .taken)) (c .restore .ensures)
@@ -43,13 +22,13 @@ pub crc-done-spec : {M : Type 1} → statement M
 crc-done-spec =
     tie.close
     (tie.spec
-    cast-i
-    mul-if1
-    array-read-if1
-    add-next
-    restore-requires
-    end-requires
-    end-requires-2
+    (λ c. search needs)
+    (λ c. search needs)
+    (λ c. search needs)
+    (λ c. search needs)
+    (λ c κs. search needs)
+    (λ c κs. search needs)
+    (λ c κs. search needs)
     returns
     returns-2
     returns-3)

@@ -5,12 +5,6 @@ use borrow.Author.Needs.{needs}
 use Rattle.session.proofs.Session.due_put.Statement.{statement}
 use Rattle.session.proofs.Session.due_put.Tie as tie
 
-moved-requires : tie.Need-moved-requires
-moved-requires c κs = search needs
-
-line-request-requires : tie.Need-line-request-requires
-line-request-requires c κs = search needs
-
 put-requires : tie.Need-put-requires
 unfolding withPosition
 put-requires c κs = rw (c .before .moved .ensures) (search needs)
@@ -20,4 +14,4 @@ unfolding duePutOf atLine withBurned
 returns c = rw (c .put .ensures, c .before .line-request .ensures, c .before .before .moved .ensures)
 
 pub due-put-spec : {M : Type 1} → statement M
-due-put-spec = tie.close (tie.spec moved-requires line-request-requires put-requires returns)
+due-put-spec = tie.close (tie.spec (λ c κs. search needs) (λ c κs. search needs) put-requires returns)

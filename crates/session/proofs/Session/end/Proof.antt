@@ -4,15 +4,9 @@ use borrow.Author.Needs.{needs}
 use Rattle.session.proofs.Session.end.Statement.{statement}
 use Rattle.session.proofs.Session.end.Tie as tie
 
-at-requires : tie.Need-at-requires
-at-requires c κs = search needs
-
-none-requires : tie.Need-none-requires
-none-requires c κs = search needs
-
 returns : tie.Need-returns
 unfolding endOf
 returns c = rw (c .none .ensures, c .before .at .ensures)
 
 pub end-spec : {M : Type 1} → statement M
-end-spec = tie.close (tie.spec at-requires none-requires returns)
+end-spec = tie.close (tie.spec (λ c κs. search needs) (λ c κs. search needs) returns)

@@ -8,18 +8,6 @@ use borrow.Author.Needs.{needs}
 use Rattle.session.proofs.Session.first_request.Statement.{statement}
 use Rattle.session.proofs.Session.first_request.Tie as tie
 
-point-requires : tie.Need-point-requires
-point-requires c κs = search needs
-
-put-requires : tie.Need-put-requires
-put-requires c κs = search needs
-
-point-requires-2 : tie.Need-point-requires-2
-point-requires-2 c κs = search needs
-
-put-requires-2 : tie.Need-put-requires-2
-put-requires-2 c κs = search needs
-
 returns : tie.Need-returns
 unfolding firstOf
 returns c = c .put .ensures ∙ (ap (putOf _ _) (c .before .point .ensures) ∙ chosen _ true _ _ (c .before .before .if1 .taken))
@@ -31,4 +19,4 @@ returns-2 c = c .put2 .ensures ∙ (ap (putOf _ _) (c .before .point2 .ensures) 
 pub first-request-spec : {M : Type 1} → statement M
 first-request-spec =
     tie.close
-    (tie.spec point-requires put-requires point-requires-2 put-requires-2 returns returns-2)
+    (tie.spec (λ c κs. search needs) (λ c κs. search needs) (λ c κs. search needs) (λ c κs. search needs) returns returns-2)

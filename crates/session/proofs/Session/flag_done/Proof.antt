@@ -5,12 +5,6 @@ use borrow.Author.Needs.{needs}
 use Rattle.session.proofs.Session.flag_done.Statement.{statement}
 use Rattle.session.proofs.Session.flag_done.Tie as tie
 
-moved-requires : tie.Need-moved-requires
-moved-requires c κs = search needs
-
-read-requires : tie.Need-read-requires
-read-requires c κs = search needs
-
 put-requires : tie.Need-put-requires
 unfolding withPosition
 put-requires c κs = rw (c .before .moved .ensures) (search needs)
@@ -20,4 +14,4 @@ unfolding flagDoneOf atFlag
 returns c = rw (c .put .ensures, c .before .read .ensures, c .before .before .moved .ensures)
 
 pub flag-done-spec : {M : Type 1} → statement M
-flag-done-spec = tie.close (tie.spec moved-requires read-requires put-requires returns)
+flag-done-spec = tie.close (tie.spec (λ c κs. search needs) (λ c κs. search needs) put-requires returns)

@@ -7,147 +7,6 @@ use borrow.Author.Needs.{needs}
 use Rattle.session.proofs.Session.follow.Statement.{statement}
 use Rattle.session.proofs.Session.follow.Tie as tie
 
-enum-told : tie.Need-enum-told
-enum-told c = search needs
-
-read-requires : tie.Need-read-requires
-read-requires c κs = search needs
-
-put-requires : tie.Need-put-requires
-put-requires c κs = search needs
-
-enum-told-2 : tie.Need-enum-told-2
-enum-told-2 c = search needs
-
-cleared-requires : tie.Need-cleared-requires
-cleared-requires c κs = search needs
-
-write4-requires : tie.Need-write4-requires
-write4-requires c κs = search needs
-
-put-requires-2 : tie.Need-put-requires-2
-put-requires-2 c κs = search needs
-
-enum-told-3 : tie.Need-enum-told-3
-enum-told-3 c = search needs
-
-write2-requires : tie.Need-write2-requires
-write2-requires c κs = search needs
-
-put-requires-3 : tie.Need-put-requires-3
-put-requires-3 c κs = search needs
-
-enum-told-4 : tie.Need-enum-told-4
-enum-told-4 c = search needs
-
-point-requires : tie.Need-point-requires
-point-requires c κs = search needs
-
-put-requires-4 : tie.Need-put-requires-4
-put-requires-4 c κs = search needs
-
-enum-told-5 : tie.Need-enum-told-5
-enum-told-5 c = search needs
-
-read-requires-2 : tie.Need-read-requires-2
-read-requires-2 c κs = search needs
-
-put-requires-5 : tie.Need-put-requires-5
-put-requires-5 c κs = search needs
-
-enum-told-6 : tie.Need-enum-told-6
-enum-told-6 c = search needs
-
-counter-done-requires : tie.Need-counter-done-requires
-counter-done-requires c κs = search needs
-
-enum-told-7 : tie.Need-enum-told-7
-enum-told-7 c = search needs
-
-identity-done-requires : tie.Need-identity-done-requires
-identity-done-requires c κs = search needs
-
-enum-told-8 : tie.Need-enum-told-8
-enum-told-8 c = search needs
-
-read-requires-3 : tie.Need-read-requires-3
-read-requires-3 c κs = search needs
-
-put-requires-6 : tie.Need-put-requires-6
-put-requires-6 c κs = search needs
-
-enum-told-9 : tie.Need-enum-told-9
-enum-told-9 c = search needs
-
-flag-done-requires : tie.Need-flag-done-requires
-flag-done-requires c κs = search needs
-
-enum-told-10 : tie.Need-enum-told-10
-enum-told-10 c = search needs
-
-revision-done-requires : tie.Need-revision-done-requires
-revision-done-requires c κs = search needs
-
-enum-told-11 : tie.Need-enum-told-11
-enum-told-11 c = search needs
-
-line-done-requires : tie.Need-line-done-requires
-line-done-requires c κs = search needs
-
-enum-told-12 : tie.Need-enum-told-12
-enum-told-12 c = search needs
-
-read-requires-4 : tie.Need-read-requires-4
-read-requires-4 c κs = search needs
-
-put-requires-7 : tie.Need-put-requires-7
-put-requires-7 c κs = search needs
-
-enum-told-13 : tie.Need-enum-told-13
-enum-told-13 c = search needs
-
-status-done-requires : tie.Need-status-done-requires
-status-done-requires c κs = search needs
-
-enum-told-14 : tie.Need-enum-told-14
-enum-told-14 c = search needs
-
-read-requires-5 : tie.Need-read-requires-5
-read-requires-5 c κs = search needs
-
-put-requires-8 : tie.Need-put-requires-8
-put-requires-8 c κs = search needs
-
-enum-told-15 : tie.Need-enum-told-15
-enum-told-15 c = search needs
-
-banks-done-requires : tie.Need-banks-done-requires
-banks-done-requires c κs = search needs
-
-enum-told-16 : tie.Need-enum-told-16
-enum-told-16 c = search needs
-
-point-requires-2 : tie.Need-point-requires-2
-point-requires-2 c κs = search needs
-
-put-requires-9 : tie.Need-put-requires-9
-put-requires-9 c κs = search needs
-
-enum-told-17 : tie.Need-enum-told-17
-enum-told-17 c = search needs
-
-read-requires-6 : tie.Need-read-requires-6
-read-requires-6 c κs = search needs
-
-put-requires-10 : tie.Need-put-requires-10
-put-requires-10 c κs = search needs
-
-enum-told-18 : tie.Need-enum-told-18
-enum-told-18 c = search needs
-
-crc-done-requires : tie.Need-crc-done-requires
-crc-done-requires c κs = search needs
-
 returns : tie.Need-returns
 unfolding followOf
 returns c = rw (c .before .before .enum-told .given .1) (c .put .ensures ∙ ap (putOf _ _) (c .before .read .ensures))
@@ -227,53 +86,53 @@ pub follow-spec : {M : Type 1} → statement M
 follow-spec =
     tie.close
     (tie.spec
-    enum-told
-    read-requires
-    put-requires
-    enum-told-2
-    cleared-requires
-    write4-requires
-    put-requires-2
-    enum-told-3
-    write2-requires
-    put-requires-3
-    enum-told-4
-    point-requires
-    put-requires-4
-    enum-told-5
-    read-requires-2
-    put-requires-5
-    enum-told-6
-    counter-done-requires
-    enum-told-7
-    identity-done-requires
-    enum-told-8
-    read-requires-3
-    put-requires-6
-    enum-told-9
-    flag-done-requires
-    enum-told-10
-    revision-done-requires
-    enum-told-11
-    line-done-requires
-    enum-told-12
-    read-requires-4
-    put-requires-7
-    enum-told-13
-    status-done-requires
-    enum-told-14
-    read-requires-5
-    put-requires-8
-    enum-told-15
-    banks-done-requires
-    enum-told-16
-    point-requires-2
-    put-requires-9
-    enum-told-17
-    read-requires-6
-    put-requires-10
-    enum-told-18
-    crc-done-requires
+    (λ c. search needs)
+    (λ c κs. search needs)
+    (λ c κs. search needs)
+    (λ c. search needs)
+    (λ c κs. search needs)
+    (λ c κs. search needs)
+    (λ c κs. search needs)
+    (λ c. search needs)
+    (λ c κs. search needs)
+    (λ c κs. search needs)
+    (λ c. search needs)
+    (λ c κs. search needs)
+    (λ c κs. search needs)
+    (λ c. search needs)
+    (λ c κs. search needs)
+    (λ c κs. search needs)
+    (λ c. search needs)
+    (λ c κs. search needs)
+    (λ c. search needs)
+    (λ c κs. search needs)
+    (λ c. search needs)
+    (λ c κs. search needs)
+    (λ c κs. search needs)
+    (λ c. search needs)
+    (λ c κs. search needs)
+    (λ c. search needs)
+    (λ c κs. search needs)
+    (λ c. search needs)
+    (λ c κs. search needs)
+    (λ c. search needs)
+    (λ c κs. search needs)
+    (λ c κs. search needs)
+    (λ c. search needs)
+    (λ c κs. search needs)
+    (λ c. search needs)
+    (λ c κs. search needs)
+    (λ c κs. search needs)
+    (λ c. search needs)
+    (λ c κs. search needs)
+    (λ c. search needs)
+    (λ c κs. search needs)
+    (λ c κs. search needs)
+    (λ c. search needs)
+    (λ c κs. search needs)
+    (λ c κs. search needs)
+    (λ c. search needs)
+    (λ c κs. search needs)
     returns
     returns-2
     returns-3

@@ -22,30 +22,6 @@ returns-4 : tie.Need-returns-4
 unfolding heldSound heldTests
 returns-4 c = all-not (heldTests (c .before .before .before .before .before .args .self)) 3 (le-ltb _ _ (c .if4 .taken))
 
-cast-result : tie.Need-cast-result
-cast-result c = search needs
-
-cast-result-2 : tie.Need-cast-result-2
-cast-result-2 c = search needs
-
-cast-result-3 : tie.Need-cast-result-3
-cast-result-3 c = search needs
-
-add-result : tie.Need-add-result
-add-result c = search needs
-
-cast-result-4 : tie.Need-cast-result-4
-cast-result-4 c = search needs
-
-mul-result : tie.Need-mul-result
-mul-result c = search needs
-
-add-result-2 : tie.Need-add-result-2
-add-result-2 c = search needs
-
-add-result-3 : tie.Need-add-result-3
-add-result-3 c = search needs
-
 returns-5 : tie.Need-returns-5
 unfolding heldSound heldTests mostSent
 returns-5 c =
@@ -62,12 +38,12 @@ held-sound-spec =
     returns-2
     returns-3
     returns-4
-    cast-result
-    cast-result-2
-    cast-result-3
-    add-result
-    cast-result-4
-    mul-result
-    add-result-2
-    add-result-3
+    (λ c. search needs)
+    (λ c. search needs)
+    (λ c. search needs)
+    (λ c. search needs)
+    (λ c. search needs)
+    (λ c. search needs)
+    (λ c. search needs)
+    (λ c. search needs)
     returns-5)

@@ -5,12 +5,6 @@ use borrow.Author.Needs.{needs}
 use Rattle.session.proofs.Session.identity_done.Statement.{statement}
 use Rattle.session.proofs.Session.identity_done.Tie as tie
 
-moved-requires : tie.Need-moved-requires
-moved-requires c κs = search needs
-
-point-requires : tie.Need-point-requires
-point-requires c κs = search needs
-
 put-requires : tie.Need-put-requires
 unfolding withPosition
 put-requires c κs = rw (c .before .moved .ensures) (search needs)
@@ -20,4 +14,4 @@ unfolding identityDoneOf atIdentity
 returns c = rw (c .put .ensures, c .before .point .ensures, c .before .before .moved .ensures)
 
 pub identity-done-spec : {M : Type 1} → statement M
-identity-done-spec = tie.close (tie.spec moved-requires point-requires put-requires returns)
+identity-done-spec = tie.close (tie.spec (λ c κs. search needs) (λ c κs. search needs) put-requires returns)

@@ -7,18 +7,6 @@ use borrow.Author.Needs.{needs}
 use Rattle.session.proofs.Session.line_done.Statement.{statement}
 use Rattle.session.proofs.Session.line_done.Tie as tie
 
-add-t6 : tie.Need-add-t6
-add-t6 c = search needs
-
-put-line-requires : tie.Need-put-line-requires
-put-line-requires c κs = search needs
-
-point-requires : tie.Need-point-requires
-point-requires c κs = search needs
-
-put-requires : tie.Need-put-requires
-put-requires c κs = search needs
-
 returns : tie.Need-returns
 unfolding lineDoneOf
 returns c = simp (lt-ltb _ _ (c .before .if1 .taken)) (c .put-line .ensures)
@@ -29,4 +17,4 @@ returns-2 c = simp (le-ltb _ _ (c .before .before .if1 .left)) (c .put .ensures 
 
 pub line-done-spec : {M : Type 1} → statement M
 line-done-spec =
-    tie.close (tie.spec add-t6 put-line-requires point-requires put-requires returns returns-2)
+    tie.close (tie.spec (λ c. search needs) (λ c κs. search needs) (λ c κs. search needs) (λ c κs. search needs) returns returns-2)

@@ -4,12 +4,9 @@ use borrow.Author.Needs.{needs}
 use Rattle.session.proofs.Session.over.Statement.{statement}
 use Rattle.session.proofs.Session.over.Tie as tie
 
-none-requires : tie.Need-none-requires
-none-requires c κs = search needs
-
 returns : tie.Need-returns
 unfolding overOf
 returns c = rw (c .none .ensures)
 
 pub over-spec : {M : Type 1} → statement M
-over-spec = tie.close (tie.spec none-requires returns)
+over-spec = tie.close (tie.spec (λ c κs. search needs) returns)

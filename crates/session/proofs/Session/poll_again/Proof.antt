@@ -6,21 +6,9 @@ use borrow.Author.Needs.{needs}
 use Rattle.session.proofs.Session.poll_again.Statement.{statement}
 use Rattle.session.proofs.Session.poll_again.Tie as tie
 
-add-polls : tie.Need-add-polls
-add-polls c = search needs
-
-moved-requires : tie.Need-moved-requires
-moved-requires c κs = search needs
-
-read-requires : tie.Need-read-requires
-read-requires c κs = search needs
-
 put-requires : tie.Need-put-requires
 unfolding withPosition
 put-requires c κs = rw (c .before .moved .ensures) (search needs)
-
-end-requires : tie.Need-end-requires
-end-requires c κs = search needs
 
 returns : tie.Need-returns
 unfolding pollAgainOf atPolls
@@ -33,4 +21,4 @@ returns-2 c = simp (le-ltb _ _ (c .before .if1 .left)) (c .end .ensures)
 pub poll-again-spec : {M : Type 1} → statement M
 poll-again-spec =
     tie.close
-    (tie.spec add-polls moved-requires read-requires put-requires end-requires returns returns-2)
+    (tie.spec (λ c. search needs) (λ c κs. search needs) (λ c κs. search needs) put-requires (λ c κs. search needs) returns returns-2)

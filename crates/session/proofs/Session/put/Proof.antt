@@ -4,15 +4,9 @@ use borrow.Author.Needs.{needs}
 use Rattle.session.proofs.Session.put.Statement.{statement}
 use Rattle.session.proofs.Session.put.Tie as tie
 
-at-requires : tie.Need-at-requires
-at-requires c κs = search needs
-
-add-next : tie.Need-add-next
-add-next c = search needs
-
 returns : tie.Need-returns
 unfolding putOf withSent withStage
 returns c = rw (c .before .at .ensures)
 
 pub put-spec : {M : Type 1} → statement M
-put-spec = tie.close (tie.spec at-requires add-next returns)
+put-spec = tie.close (tie.spec (λ c κs. search needs) (λ c. search needs) returns)

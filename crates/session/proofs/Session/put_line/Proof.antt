@@ -5,27 +5,6 @@ use borrow.Author.Needs.{needs}
 use Rattle.session.proofs.Session.put_line.Statement.{statement}
 use Rattle.session.proofs.Session.put_line.Tie as tie
 
-read-one-requires : tie.Need-read-one-requires
-read-one-requires c κs = search needs
-
-enum-told : tie.Need-enum-told
-enum-told c = search needs
-
-bad-requires : tie.Need-bad-requires
-bad-requires c κs = search needs
-
-enum-known-due : tie.Need-enum-known-due
-enum-known-due c = search needs
-
-took-requires : tie.Need-took-requires
-took-requires c κs = search needs
-
-enum-told-2 : tie.Need-enum-told-2
-enum-told-2 c = search needs
-
-bad-requires-2 : tie.Need-bad-requires-2
-bad-requires-2 c κs = search needs
-
 returns : tie.Need-returns
 unfolding putLineOf dueOf
 returns c = rw (via (c .before .before .before .read-one .ensures) (c .before .enum-told .given .1)) (c .bad .ensures)
@@ -42,13 +21,13 @@ pub put-line-spec : {M : Type 1} → statement M
 put-line-spec =
     tie.close
     (tie.spec
-    read-one-requires
-    enum-told
-    bad-requires
-    enum-known-due
-    took-requires
-    enum-told-2
-    bad-requires-2
+    (λ c κs. search needs)
+    (λ c. search needs)
+    (λ c κs. search needs)
+    (λ c. search needs)
+    (λ c κs. search needs)
+    (λ c. search needs)
+    (λ c κs. search needs)
     returns
     returns-2
     returns-3)

@@ -4,30 +4,6 @@ use borrow.Author.Needs.{needs}
 use Rattle.session.proofs.Session.replied.Statement.{statement}
 use Rattle.session.proofs.Session.replied.Tie as tie
 
-enum-told : tie.Need-enum-told
-enum-told c = search needs
-
-end-requires : tie.Need-end-requires
-end-requires c κs = search needs
-
-enum-told-2 : tie.Need-enum-told-2
-enum-told-2 c = search needs
-
-end-requires-2 : tie.Need-end-requires-2
-end-requires-2 c κs = search needs
-
-enum-told-3 : tie.Need-enum-told-3
-enum-told-3 c = search needs
-
-end-requires-3 : tie.Need-end-requires-3
-end-requires-3 c κs = search needs
-
-enum-known-form : tie.Need-enum-known-form
-enum-known-form c = search needs
-
-follow-requires : tie.Need-follow-requires
-follow-requires c κs = search needs
-
 returns : tie.Need-returns
 unfolding repliedOf
 returns c = rw (c .before .enum-told .given .1) (c .end .ensures)
@@ -48,14 +24,14 @@ pub replied-spec : {M : Type 1} → statement M
 replied-spec =
     tie.close
     (tie.spec
-    enum-told
-    end-requires
-    enum-told-2
-    end-requires-2
-    enum-told-3
-    end-requires-3
-    enum-known-form
-    follow-requires
+    (λ c. search needs)
+    (λ c κs. search needs)
+    (λ c. search needs)
+    (λ c κs. search needs)
+    (λ c. search needs)
+    (λ c κs. search needs)
+    (λ c. search needs)
+    (λ c κs. search needs)
     returns
     returns-2
     returns-3

@@ -8,26 +8,8 @@ use borrow.Author.Needs.{needs}
 use Rattle.session.proofs.Session.reply.Statement.{statement}
 use Rattle.session.proofs.Session.reply.Tie as tie
 
-enum-known-stage : tie.Need-enum-known-stage
-enum-known-stage c = search needs
-
-over-requires : tie.Need-over-requires
-over-requires c κs = search needs
-
-enum-known-stage-2 : tie.Need-enum-known-stage-2
-enum-known-stage-2 c = search needs
-
-sound-requires : tie.Need-sound-requires
-sound-requires c κs = search needs
-
-form-requires : tie.Need-form-requires
-form-requires c κs = search needs
-
 replied-requires : tie.Need-replied-requires
 replied-requires c κs = ready _ (via (c .before .before .before .sound .ensures) (c .before .before .if1 .taken))
-
-bad-requires : tie.Need-bad-requires
-bad-requires c κs = search needs
 
 returns : tie.Need-returns
 returns c = c .over .ensures ∙ when-ended _ _ _ _ _ (c .before .before .stage .given .1)
@@ -48,13 +30,13 @@ pub reply-spec : {M : Type 1} → statement M
 reply-spec =
     tie.close
     (tie.spec
-    enum-known-stage
-    over-requires
-    enum-known-stage-2
-    sound-requires
-    form-requires
+    (λ c. search needs)
+    (λ c κs. search needs)
+    (λ c. search needs)
+    (λ c κs. search needs)
+    (λ c κs. search needs)
     replied-requires
-    bad-requires
+    (λ c κs. search needs)
     returns
     returns-2
     returns-3)

@@ -6,18 +6,6 @@ use borrow.Author.Needs.{needs}
 use Rattle.session.proofs.Session.restore.Statement.{statement}
 use Rattle.session.proofs.Session.restore.Tie as tie
 
-cast-i : tie.Need-cast-i
-cast-i c = search needs
-
-array-copy-out-id : tie.Need-array-copy-out-id
-array-copy-out-id c = search needs
-
-moved-requires : tie.Need-moved-requires
-moved-requires c κs = search needs
-
-write1-requires : tie.Need-write1-requires
-write1-requires c κs = search needs
-
 put-requires : tie.Need-put-requires
 unfolding withPosition
 put-requires c κs = rw (c .before .moved .ensures) (search needs)
@@ -29,4 +17,4 @@ returns c = rw (c .put .ensures, c .before .write1 .ensures, c .before .before .
 pub restore-spec : {M : Type 1} → statement M
 restore-spec =
     tie.close
-    (tie.spec cast-i array-copy-out-id moved-requires write1-requires put-requires returns)
+    (tie.spec (λ c. search needs) (λ c. search needs) (λ c κs. search needs) (λ c κs. search needs) put-requires returns)

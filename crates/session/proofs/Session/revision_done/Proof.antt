@@ -7,24 +7,6 @@ use borrow.Author.Needs.{needs}
 use Rattle.session.proofs.Session.revision_done.Statement.{statement}
 use Rattle.session.proofs.Session.revision_done.Tie as tie
 
-of-requires : tie.Need-of-requires
-of-requires c κs = search needs
-
-enum-told : tie.Need-enum-told
-enum-told c = search needs
-
-first-write-requires : tie.Need-first-write-requires
-first-write-requires c κs = search needs
-
-put-line-requires : tie.Need-put-line-requires
-put-line-requires c κs = search needs
-
-enum-known-fit : tie.Need-enum-known-fit
-enum-known-fit c = search needs
-
-end-requires : tie.Need-end-requires
-end-requires c κs = search needs
-
 returns : tie.Need-returns
 unfolding revisionDoneOf fitHeld fitDoneOf
 returns c =
@@ -39,11 +21,11 @@ pub revision-done-spec : {M : Type 1} → statement M
 revision-done-spec =
     tie.close
     (tie.spec
-    of-requires
-    enum-told
-    first-write-requires
-    put-line-requires
-    enum-known-fit
-    end-requires
+    (λ c κs. search needs)
+    (λ c. search needs)
+    (λ c κs. search needs)
+    (λ c κs. search needs)
+    (λ c. search needs)
+    (λ c κs. search needs)
     returns
     returns-2)

@@ -7,15 +7,6 @@ use borrow.Author.Needs.{needs}
 use Rattle.session.proofs.Session.sound.Statement.{statement}
 use Rattle.session.proofs.Session.sound.Tie as tie
 
-allowed-requires : tie.Need-allowed-requires
-allowed-requires c κs = search needs
-
-file-sound-requires : tie.Need-file-sound-requires
-file-sound-requires c κs = search needs
-
-held-sound-requires : tie.Need-held-sound-requires
-held-sound-requires c κs = search needs
-
 returns : tie.Need-returns
 unfolding soundOf stateTests
 returns c =
@@ -35,4 +26,4 @@ returns-3 c = all-not (stateTests (c .before .before .before .before .args .self
 pub sound-spec : {M : Type 1} → statement M
 sound-spec =
     tie.close
-    (tie.spec allowed-requires file-sound-requires held-sound-requires returns returns-2 returns-3)
+    (tie.spec (λ c κs. search needs) (λ c κs. search needs) (λ c κs. search needs) returns returns-2 returns-3)

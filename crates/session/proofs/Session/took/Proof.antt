@@ -6,21 +6,6 @@ use borrow.Author.Needs.{needs}
 use Rattle.session.proofs.Session.took.Statement.{statement}
 use Rattle.session.proofs.Session.took.Tie as tie
 
-is-burn-requires : tie.Need-is-burn-requires
-is-burn-requires c κs = search needs
-
-due-put-requires : tie.Need-due-put-requires
-due-put-requires c κs = search needs
-
-bad-requires : tie.Need-bad-requires
-bad-requires c κs = search needs
-
-bad-requires-2 : tie.Need-bad-requires-2
-bad-requires-2 c κs = search needs
-
-due-put-requires-2 : tie.Need-due-put-requires-2
-due-put-requires-2 c κs = search needs
-
 returns : tie.Need-returns
 unfolding tookOf
 returns c =
@@ -49,11 +34,11 @@ pub took-spec : {M : Type 1} → statement M
 took-spec =
     tie.close
     (tie.spec
-    is-burn-requires
-    due-put-requires
-    bad-requires
-    bad-requires-2
-    due-put-requires-2
+    (λ c κs. search needs)
+    (λ c κs. search needs)
+    (λ c κs. search needs)
+    (λ c κs. search needs)
+    (λ c κs. search needs)
     returns
     returns-2
     returns-3

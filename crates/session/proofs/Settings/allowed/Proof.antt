@@ -14,9 +14,6 @@ returns-2 : tie.Need-returns-2
 unfolding all settingTests allowedOf
 returns-2 c = simp (le-leb 1 _ (c .before .before .if1 .left), lt-leb _ 10000 (c .if2 .taken))
 
-reserved-requires : tie.Need-reserved-requires
-reserved-requires c κs = search needs
-
 returns-3 : tie.Need-returns-3
 unfolding all settingTests allowedOf
 returns-3 c =
@@ -30,4 +27,4 @@ returns-4 c =
     simp (le-leb 1 _ (b .before .before .if1 .left), le-leb _ 10000 (b .if2 .left), via (c .before .reserved .ensures) (c .if3 .left))
 
 pub allowed-spec : {M : Type 1} → statement M
-allowed-spec = tie.close (tie.spec returns returns-2 reserved-requires returns-3 returns-4)
+allowed-spec = tie.close (tie.spec returns returns-2 (λ c κs. search needs) returns-3 returns-4)

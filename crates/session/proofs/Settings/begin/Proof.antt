@@ -7,27 +7,6 @@ use borrow.Author.Needs.{needs}
 use Rattle.session.proofs.Settings.begin.Statement.{statement}
 use Rattle.session.proofs.Settings.begin.Tie as tie
 
-allowed-requires : tie.Need-allowed-requires
-allowed-requires c κs = search needs
-
-check-requires : tie.Need-check-requires
-check-requires c κs = search needs
-
-enum-told : tie.Need-enum-told
-enum-told c = search needs
-
-start-requires : tie.Need-start-requires
-start-requires c κs = search needs
-
-enum-known-answer : tie.Need-enum-known-answer
-enum-known-answer c = search needs
-
-refused-requires : tie.Need-refused-requires
-refused-requires c κs = search needs
-
-refused-requires-2 : tie.Need-refused-requires-2
-refused-requires-2 c κs = search needs
-
 returns : tie.Need-returns
 unfolding answeredOf
 returns c =
@@ -50,13 +29,13 @@ pub begin-spec : {M : Type 1} → statement M
 begin-spec =
     tie.close
     (tie.spec
-    allowed-requires
-    check-requires
-    enum-told
-    start-requires
-    enum-known-answer
-    refused-requires
-    refused-requires-2
+    (λ c κs. search needs)
+    (λ c κs. search needs)
+    (λ c. search needs)
+    (λ c κs. search needs)
+    (λ c. search needs)
+    (λ c κs. search needs)
+    (λ c κs. search needs)
     returns
     returns-2
     returns-3)

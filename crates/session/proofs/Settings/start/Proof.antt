@@ -5,15 +5,6 @@ use borrow.Author.Needs.{needs}
 use Rattle.session.proofs.Settings.start.Statement.{statement}
 use Rattle.session.proofs.Settings.start.Tie as tie
 
-first-write-requires : tie.Need-first-write-requires
-first-write-requires c κs = search needs
-
-new-requires : tie.Need-new-requires
-new-requires c κs = search needs
-
-fresh-requires : tie.Need-fresh-requires
-fresh-requires c κs = search needs
-
 first-request-requires : tie.Need-first-request-requires
 unfolding freshOf
 first-request-requires c κs = rw (c .fresh .ensures) (omega arith)
@@ -24,4 +15,4 @@ returns c = rw (c .first-request .ensures, c .before .fresh .ensures, c .before 
 
 pub start-spec : {M : Type 1} → statement M
 start-spec =
-    tie.close (tie.spec first-write-requires new-requires fresh-requires first-request-requires returns)
+    tie.close (tie.spec (λ c κs. search needs) (λ c κs. search needs) (λ c κs. search needs) first-request-requires returns)

@@ -15,12 +15,6 @@ returns-2 : tie.Need-returns-2
 unfolding fileSound fileTests
 returns-2 c = all-not (fileTests (c .before .before .args .file)) 1 (lt-leb _ _ (c .if2 .taken))
 
-lines-requires : tie.Need-lines-requires
-lines-requires c κs = search needs
-
-ids-sound-requires : tie.Need-ids-sound-requires
-ids-sound-requires c κs = search needs
-
 returns-3 : tie.Need-returns-3
 unfolding fileSound fileTests
 returns-3 c =
@@ -38,4 +32,4 @@ returns-4 c =
 
 pub file-sound-spec : {M : Type 1} → statement M
 file-sound-spec =
-    tie.close (tie.spec returns returns-2 lines-requires ids-sound-requires returns-3 returns-4)
+    tie.close (tie.spec returns returns-2 (λ c κs. search needs) (λ c κs. search needs) returns-3 returns-4)

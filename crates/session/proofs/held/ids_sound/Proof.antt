@@ -18,9 +18,6 @@ abbrev μ-loop : tie.MeasureT-loop
 loop-holds : tie.Need-loop-holds Inv-loop μ-loop
 loop-holds c = (search needs, refl, search needs, omega arith, refl)
 
-array-copy-out-id : tie.Need-array-copy-out-id Inv-loop μ-loop
-array-copy-out-id c = search needs
-
 returns : tie.Need-returns Inv-loop μ-loop
 returns c =
     let l = c .before .before .before .before in
@@ -57,7 +54,7 @@ ids-sound-spec =
     Inv-loop
     μ-loop
     loop-holds
-    array-copy-out-id
+    (λ c. search needs)
     returns
     add-i
     loop-less
