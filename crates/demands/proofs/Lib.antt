@@ -17,5 +17,3 @@ pub mod Burned
 pub mod Answers
 pub mod Fitting
 pub mod Ends
-pub mod Unique
-pub mod UniqueOver

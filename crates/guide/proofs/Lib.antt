@@ -18,5 +18,5 @@ pub mod BurnOnce
 pub mod LineBytes
 pub mod Marks
 pub mod OfText
-pub mod Examples
 pub mod Clearing
+pub mod OneAnswer

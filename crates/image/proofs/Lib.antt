@@ -19,3 +19,4 @@ pub mod Spotted
 pub mod Walked
 pub mod Bridge
 pub mod Accepted
+pub mod OneAnswer

@@ -8,3 +8,4 @@ pub mod Spelling
 pub mod Rows
 pub mod Order
 pub mod Forms
+pub mod OneAnswer

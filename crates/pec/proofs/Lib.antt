@@ -1,3 +1,3 @@
 pub mod Entries
 pub mod Laws
-pub mod Unique
+pub mod OneAnswer

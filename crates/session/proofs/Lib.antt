@@ -10,3 +10,4 @@ pub mod Fifteen
 pub mod Carrying
 pub mod Beginning
 pub mod Fourteen
+pub mod OneAnswer

@@ -1,0 +1,28 @@
+-- One answer: any two results that the promise of a public function allows for the same input are equal. tests/check-unique holds each
+-- of these to the source. Assumes nothing.
+use mathlib.Core.Path.{_≡_}
+use mathlib.Core.List.{List}
+use Prim.Native.Nat.{ℕ}
+use Rattle.bus.specs.declared.Request.{Request}
+use Rattle.text.proofs.OneAnswer.{OnePut, one-put}
+use mathlib.Core.Bool.{Bool}
+use Rattle.session.specs.declared.Report.{Report}
+use Rattle.dryrun.specs.Parts.{foundAt, inputOf}
+use Rattle.dryrun.specs.Lines.{countLine, reportLine, requestLine}
+use Rattle.promise.specs.One.{One}
+use Rattle.promise.proofs.Equal.{one-answer}
+
+pub one-reply-at : (input : List ℕ) (at : ℕ) → One (λ r. r ≡ foundAt input at)
+one-reply-at input at = one-answer _
+
+pub one-parse : (input : List ℕ) → One (λ r. r ≡ inputOf input)
+one-parse input = one-answer _
+
+pub one-put-request : (out : List ℕ) (q : Request) → OnePut out 0 (requestLine q)
+one-put-request out q = one-put
+
+pub one-put-report : (out : List ℕ) (report : Report) → OnePut out 0 (reportLine report)
+one-put-report out report = one-put
+
+pub one-put-count : (out : List ℕ) (sent : ℕ) (burned : Bool) → OnePut out 0 (countLine sent burned)
+one-put-count out sent burned = one-put

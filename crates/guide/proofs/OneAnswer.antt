@@ -1,0 +1,40 @@
+-- One answer: any two results that the promise of a public function allows for the same input are equal. tests/check-unique holds each
+-- of these to the source. Assumes nothing.
+use mathlib.Core.Path.{_≡_}
+use Prim.Native.Nat.{ℕ}
+use Rattle.counts.specs.declared.Kind.{Kind}
+use Rattle.line.specs.declared.Line.{Line}
+use Rattle.guide.specs.declared.Verdict.{Verdict}
+use Rattle.guide.specs.Numbers.{verdictConfig, verdictLine, verdictNumber}
+use Rattle.guide.specs.Judged.{banksRight, cleared, fitOf, kindWanted, polledOf}
+use Rattle.guide.specs.Guide.{lineRequest}
+use Rattle.promise.specs.One.{One}
+use Rattle.promise.proofs.Equal.{one-answer}
+
+pub one-kind-wanted : (counter flag : ℕ) → One (λ r. r ≡ kindWanted counter flag)
+one-kind-wanted counter flag = one-answer _
+
+pub one-Fit-of : (kind : Kind) (expected configs kept counter identity flag revision : ℕ)
+    → One (λ r. r ≡ fitOf kind expected configs kept counter identity flag revision)
+one-Fit-of kind expected configs kept counter identity flag revision = one-answer _
+
+pub one-Polled-of : (status : ℕ) → One (λ r. r ≡ polledOf status)
+one-Polled-of status = one-answer _
+
+pub one-banks-right : (configs word : ℕ) → One (λ r. r ≡ banksRight configs word)
+one-banks-right configs word = one-answer _
+
+pub one-Verdict-number : (self : Verdict) → One (λ r. r ≡ verdictNumber self)
+one-Verdict-number self = one-answer _
+
+pub one-Verdict-line : (self : Verdict) → One (λ r. r ≡ verdictLine self)
+one-Verdict-line self = one-answer _
+
+pub one-Verdict-config : (self : Verdict) → One (λ r. r ≡ verdictConfig self)
+one-Verdict-config self = one-answer _
+
+pub one-cleared : (word : ℕ) → One (λ r. r ≡ cleared word)
+one-cleared word = one-answer _
+
+pub one-line-request : (line : Line) → One (λ r. r ≡ lineRequest line)
+one-line-request line = one-answer _
