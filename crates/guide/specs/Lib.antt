@@ -4,5 +4,4 @@ pub mod Plan
 pub mod Guide
 pub mod Matched
 pub mod Statements
-pub mod Examples
 pub mod Cleared

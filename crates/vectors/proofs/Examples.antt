@@ -9,10 +9,10 @@ use Rattle.image.specs.Says.{word, crcOf}
 use Rattle.bus.specs.Bus.{eight, readOf}
 use Rattle.bus.specs.ReplyForm.{wordAt, sealedOf, readForm, doneForm, formOf}
 use Rattle.text.specs.Text.{bytesOf}
-use Rattle.guide.specs.Examples.{Holds, twelve, Hold}
+use Rattle.vectors.specs.Examples.{ExampleHolds, twelve, AllHold}
 
-pub examples-hold : Hold twelve
-unfolding Hold Holds bytesOf readLine readDigits readValues allDigits valuesOf pairVal digitVal badPairs lengthRight crcRight formRight formOk headOk bodyOk someTo32 lineOf crcOf word formOf doneForm readForm sealedOf wordAt readOf eight pecFrom step remainder shifts shift topBit
+pub examples-hold : AllHold twelve
+unfolding AllHold ExampleHolds bytesOf readLine readDigits readValues allDigits valuesOf pairVal digitVal badPairs lengthRight crcRight formRight formOk headOk bodyOk someTo32 lineOf crcOf word formOf doneForm readForm sealedOf wordAt readOf eight pecFrom step remainder shifts shift topBit
 examples-hold = (
   refl,
   (

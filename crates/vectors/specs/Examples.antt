@@ -26,12 +26,12 @@ pub data Example : Type 0 where
   -- the reply to this request, done, with these bytes and then this PEC, is in form with this word
   coded : Request → List ℕ → (p w : ℕ) → Example
 
-unfoldable pub Holds : Example → Type 0
-Holds (good n text l) = readLine (lineNumber n) (bytesOf text) ≡ reading.Good l
-Holds (tells n text l crc) = (readLine (lineNumber n) (bytesOf text) ≡ reading.Good l) × (crcOf l ≡ crc)
-Holds (refused n text number) = (f : Fault) × (readLine (lineNumber n) (bytesOf text) ≡ reading.Refused f) × (faultNumber f ≡ number)
+unfoldable pub ExampleHolds : Example → Type 0
+ExampleHolds (good n text l) = readLine (lineNumber n) (bytesOf text) ≡ reading.Good l
+ExampleHolds (tells n text l crc) = (readLine (lineNumber n) (bytesOf text) ≡ reading.Good l) × (crcOf l ≡ crc)
+ExampleHolds (refused n text number) = (f : Fault) × (readLine (lineNumber n) (bytesOf text) ≡ reading.Refused f) × (faultNumber f ≡ number)
 -- and with another last byte it is not: the PEC is this one
-Holds (coded q bs p w) = (formOf q 1 (bs ++ (p ∷ [])) ≡ form.Good w) × ((x : ℕ) → (x ≡ p → ⊥) → formOf q 1 (bs ++ (x ∷ [])) ≡ form.Miscoded)
+ExampleHolds (coded q bs p w) = (formOf q 1 (bs ++ (p ∷ [])) ≡ form.Good w) × ((x : ℕ) → (x ≡ p → ⊥) → formOf q 1 (bs ++ (x ∷ [])) ≡ form.Miscoded)
 
 -- command, data and CRC of a line with two data bytes, and with four
 abbrev two : ℕ → ℕ → ℕ → ℕ → Line
@@ -59,6 +59,6 @@ twelve =
     ∷ coded (readBlock 0xAD) (0x04 ∷ 0x00 ∷ 0x81 ∷ 0xD2 ∷ 0x49 ∷ []) 0x3C 0x49D28100
     ∷ []
 
-unfoldable pub Hold : List Example → Type 0
-Hold [] = Unit {0}
-Hold (e ∷ es) = Holds e × Hold es
+unfoldable pub AllHold : List Example → Type 0
+AllHold [] = Unit {0}
+AllHold (e ∷ es) = ExampleHolds e × AllHold es
