@@ -2,7 +2,7 @@
 -- of these to the source. Assumes nothing.
 use mathlib.Core.Path.{_≡_}
 use mathlib.Core.List.{List, [], _∷_}
-use Prim.Native.Nat.{_%_, _-_, _/_, ℕ}
+use Prim.Native.Nat.{_%_, _/_, ℕ}
 use Rattle.pec.specs.Pec.{pec}
 use Rattle.bus.specs.declared.Request.{Request}
 use Rattle.bus.specs.Bus.{framed, noRequest, pointTo, readOf, reserved, wordBytes, writeOf}

@@ -10,16 +10,16 @@ use Rattle.line.proofs.Spelling.{spells-values}
 use Rattle.image.specs.declared.FileAnswer.the-variants.{Accepted}
 use Rattle.image.specs.Check.{answerNumber, checkOf}
 use Rattle.image.specs.Meets.{numbered, Meets}
-use Rattle.image.proofs.Standing.{spelled-length, spells-at}
-use Rattle.image.proofs.Meeting.{accepted-exactly}
+use Rattle.image.proofs.LinesAndBytes.{spelled-length, spells-at}
+use Rattle.image.proofs.AcceptedExactly.{accepted-exactly}
 use Rattle.bus.specs.Bus.{reserved}
 use Rattle.guide.specs.Plan.{Reply}
 use Rattle.guide.specs.Statements.{Gate, Burns, Bounded, MarksTell, SpelledOnce}
 use Rattle.guide.proofs.FileFacts.{valuesAt, FileFacts}
-use Rattle.guide.proofs.Count.{bounded}
-use Rattle.guide.proofs.Gating.{gate-holds}
-use Rattle.guide.proofs.BurnOnce.{burns-hold}
-use Rattle.guide.proofs.Marks.{spelled-once, marks-tell}
+use Rattle.guide.proofs.Bounded.{bounded}
+use Rattle.guide.proofs.GateHolds.{gate-holds}
+use Rattle.guide.proofs.BurnsHold.{burns-hold}
+use Rattle.guide.proofs.MarksTell.{spelled-once, marks-tell}
 
 module _ (text : List ℕ) (m : Meets text) where
   values-are : (n : ℕ) → valuesAt text n ≡ numbered (m .values) n

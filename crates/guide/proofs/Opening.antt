@@ -14,7 +14,7 @@ use Rattle.guide.specs.Plan.{Reply, other, Plan}
 use Rattle.guide.specs.Guide.{gate, step1, step2}
 use Rattle.guide.specs.Matched.{heard1, heard2, opening, Matched}
 use Rattle.guide.specs.Statements.{isLine, linesIn, openingCount}
-use Rattle.guide.proofs.Judging.{judged-exactly}
+use Rattle.guide.proofs.JudgedExactly.{judged-exactly}
 use Rattle.guide.proofs.Through.{Through, here, then, through-both, answered, Leads, arrived, on, asksOf}
 use Rattle.guide.proofs.Ways.{Keeps, bind, bind-write}
 use Rattle.guide.proofs.Fair.{Fair, fails, fit-fair}

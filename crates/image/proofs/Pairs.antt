@@ -5,7 +5,7 @@ use mathlib.Core.List.{List}
 use mathlib.Core.Path.{_≡_}
 use lib.Dec.{eqb}
 use Rattle.counts.specs.declared.ConfigId.{ConfigId}
-use Rattle.image.specs.Walk.{idAt, sameAt, sameIn}
+use Rattle.image.specs.Private.Walk.{idAt, sameAt, sameIn}
 use Rattle.image.proofs.Search.{below-on, below-found}
 
 module _ (ids : List ConfigId) where

@@ -18,7 +18,7 @@ ghost use Rattle.counts.specs.Counts.{stepOf};
 ghost use Rattle.line.specs.Lines.{placeOf};
 ghost use Rattle.line.specs.Digits.{IsDigits};
 ghost use Rattle.line.specs.Reading.{nextLine};
-ghost use Rattle.image.specs.Walk.{lineIn, offSpot, noSpots, spotsWith, spotsTo, sameIn};
+ghost use Rattle.image.specs.Private.Walk.{lineIn, offSpot, noSpots, spotsWith, spotsTo, sameIn};
 
 // The line that was taken, and a line of zeros where none was.
 fn line_in(found: NextLine) -> Line

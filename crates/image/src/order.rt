@@ -19,7 +19,7 @@ ghost use mathlib.Core.Path.{_≡_};
 ghost use Prim.Native.Nat.{_≤_};
 ghost use Rattle.pec.specs.Lent.{IsTable};
 ghost use Rattle.line.specs.Digits.{IsDigits};
-ghost use Rattle.image.specs.Cascade.{refusedBy, burnAmissIn, lastBeyond, onSpots, onConfigs, onKind, onFacts, onTold};
+ghost use Rattle.image.specs.Private.Cascade.{refusedBy, burnAmissIn, lastBeyond, onSpots, onConfigs, onKind, onFacts, onTold};
 
 // A refused file says nothing.
 pub(crate) fn refused_by(refusal: Refusal) -> Checked

@@ -13,7 +13,7 @@ ghost use Prim.Native.Nat.{_+_, _<_, _≤_, _^_};
 ghost use Rattle.pec.specs.Lent.{IsTable};
 ghost use Rattle.line.specs.Lines.{linesOf};
 ghost use Rattle.line.specs.Digits.{IsDigits};
-ghost use Rattle.image.specs.Walk.{start, factsWith, factsFrom};
+ghost use Rattle.image.specs.Private.Walk.{start, factsWith, factsFrom};
 
 // What was seen once stays seen.
 pub(crate) fn either(a: bool, b: bool) -> bool

@@ -1,11 +1,11 @@
 pub mod Basics
-pub mod Parts
+pub mod LineParts
 pub mod Cuts
-pub mod Right
+pub mod LentIsRight
 pub mod Taking
-pub mod Counted
+pub mod BlockCounts
 pub mod Spelling
 pub mod Rows
 pub mod Order
-pub mod Forms
+pub mod GoodExactly
 pub mod OneAnswer

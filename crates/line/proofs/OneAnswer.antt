@@ -2,7 +2,7 @@
 -- of these to the source. Assumes nothing.
 use mathlib.Core.Path.{_∙_, _≡_, sym}
 use mathlib.Core.List.{List}
-use Prim.Native.Nat.{_+_, _-_, _<_, ℕ}
+use Prim.Native.Nat.{_+_, _<_, ℕ}
 use native.Mathlib.Omega.{arith}
 use lib.ListN.{drop}
 use lib.Seq.{ext-getD}

@@ -12,12 +12,12 @@ use Rattle.counts.specs.declared.LineNumber.{LineNumber}
 use Rattle.line.specs.Digits.{isDigit, allDigits, digitRun, digitBy, valuesOf}
 use Rattle.line.specs.Reading.{badPairs, bodyOk, formOk, lengthRight, crcRight, formRight, lineOf, readValues, readDigits, nextBy}
 use Rattle.line.specs.Lent.{endingOf, readBy, byEnding, lentNext}
-use Rattle.line.specs.Quick.{headed, endsRun}
+use Rattle.line.specs.Private.Quick.{headed, endsRun}
 use Rattle.line.specs.declared.Ending.the-variants.{Other, Next}
 use Rattle.line.specs.declared.NextLine.the-variants.{Took}
 use Rattle.line.proofs.Basics.{split, and-true, drop-at1}
-use Rattle.line.proofs.Parts.{values-length}
-use Rattle.line.proofs.Right.{lent-here}
+use Rattle.line.proofs.LineParts.{values-length}
+use Rattle.line.proofs.LentIsRight.{lent-here}
 
 -- ---- the run of digits ends where it is said to
 

@@ -3,4 +3,4 @@ pub mod Digits
 pub mod Reading
 pub mod Lent
 pub mod LineForm
-pub mod Quick
+pub mod Private

@@ -17,7 +17,7 @@ ghost use Rattle.pec.specs.Lent.{runWith};
 ghost use Rattle.line.specs.Digits.{digitBy, allDigits, valuesOf};
 ghost use Rattle.line.specs.Lent.{readBy, lentNext};
 ghost use Rattle.line.specs.Reading.{nextBy};
-ghost use Rattle.line.specs.Quick.{headed, endsRun, Takes};
+ghost use Rattle.line.specs.Private.Quick.{headed, endsRun, Takes};
 
 fn all_digits(digits: &[u8; 256], t: &[u8]) -> bool
     ensures { λ r. ⌜ r ≡ allDigits (digitBy (now (digits .entry))) (now (t .entry)) ⌝ }

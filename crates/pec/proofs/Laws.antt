@@ -2,13 +2,13 @@
 use mathlib.Core.Path.{_≡_, refl}
 use mathlib.Core.Bool.{Bool, true, false, cond}
 use mathlib.Core.List.{List, [], _∷_, _++_}
-use Prim.Native.Nat.{ℕ, zero, suc, _+_, _-_, _*_, _%_, _<_, _≤_}
+use Prim.Native.Nat.{ℕ, zero, suc, _+_, _*_, _%_, _<_}
 use native.Mathlib.Omega.{arith}
 use native.Mathlib.Numerals.{add-one}
 use lib.Dec.{lit<}
 use lib.Bits.{bitXor, xor-lt}
-use lib.ListN.{length, getD, take, drop, length-drop}
-use lib.Seq.{take-suc, getD-drop}
+use lib.ListN.{length, getD, take}
+use lib.Seq.{take-suc}
 use Rattle.pec.specs.Pec.{topBit, shift, shifts, remainder, step, pecFrom, pec}
 use Rattle.pec.specs.Lent.{IsTable, stepWith, runWith}
 
@@ -45,14 +45,6 @@ pec-lt bs = pecFrom-lt 0 bs (lit< tt)
 
 -- ---- bytes one after the other, and lists one behind the other
 
-pub pecFrom-nil : (c : ℕ) → pecFrom c [] ≡ c
-unfolding pecFrom
-pecFrom-nil c = refl
-
-pub pecFrom-cons : (c b : ℕ) (bs : List ℕ) → pecFrom c (b ∷ bs) ≡ pecFrom (step c b) bs
-unfolding pecFrom
-pecFrom-cons c b bs = refl
-
 pub pecFrom-append : (c : ℕ) (xs ys : List ℕ) → pecFrom c (xs ++ ys) ≡ pecFrom (pecFrom c xs) ys
 unfolding pecFrom
 pecFrom-append c [] ys = refl
@@ -69,15 +61,6 @@ pub runWith-take : (table : List ℕ) (c : ℕ) (s : List ℕ) (i : ℕ) → i <
     runWith table c (take (i + 1) s) ≡ stepWith table (runWith table c (take i s)) (getD s i 0)
 unfolding runWith
 runWith-take table c s i h = rw (add-one, take-suc s i 0, runWith-append)
-
--- the same over the part of a slice that starts at a, `&s[a..i]`
-pub runWith-part : (table : List ℕ) (c : ℕ) (s : List ℕ) (a i : ℕ) → a ≤ i → i < length s →
-    runWith table c (take (i + 1 - a) (drop a s)) ≡ stepWith table (runWith table c (take (i - a) (drop a s))) (getD s i 0)
-runWith-part table c s a i h k =
-    let n : i + 1 - a ≡ i - a + 1 = omega arith in
-    let inside : i - a < length (drop a s) = simp length-drop (omega arith) in
-    let back : a + (i - a) ≡ i = omega arith in
-    rw (n, runWith-take table c (drop a s) (i - a) inside, getD-drop, back)
 
 -- ---- a table that keeps the rule gives the PEC's own steps
 

@@ -25,7 +25,7 @@ use Rattle.guide.specs.declared.Polled.{Polled}
 use Rattle.guide.specs.declared.Polled.the-variants.{Busy, Passed, Failed}
 use Rattle.guide.specs.Judged.{polledOf, banksRight}
 use Rattle.guide.specs.Guide.{crcIn}
-use Rattle.guide.proofs.Judging.{judged-exactly}
+use Rattle.guide.proofs.JudgedExactly.{judged-exactly}
 use Rattle.session.specs.declared.Position.{Position}
 use Rattle.session.specs.declared.Session.{Session}
 use Rattle.session.specs.declared.Handed.{Handed}

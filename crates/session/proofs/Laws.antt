@@ -18,7 +18,8 @@ use Rattle.session.specs.declared.Settings.{Settings}
 use Rattle.session.specs.declared.Session.{Session}
 use Rattle.session.specs.declared.Awaited.{Awaited}
 use Rattle.session.specs.declared.Stage.the-variants.{Open, Ended}
-use Rattle.session.specs.Moves.{Ready, overOf, badOf}
+use Rattle.session.specs.Moves.{overOf, badOf}
+use Rattle.session.specs.Private.Ready.{Ready}
 use Rattle.session.specs.Sound.{settingTests, allowedOf, fileTests, fileSound, mostSent, heldTests, heldSound, stateTests, soundOf}
 use Rattle.session.specs.Reply.{repliedOf, stageOf, replyOf}
 use Rattle.session.specs.Begin.{refusedOf, answeredOf, checkedOf, beginOf}

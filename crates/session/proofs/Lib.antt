@@ -6,8 +6,8 @@ pub mod SettingsOut
 pub mod Spoiled
 pub mod Every
 pub mod Refusing
-pub mod Fifteen
-pub mod Carrying
-pub mod Beginning
-pub mod Fourteen
+pub mod FifteenExactly
+pub mod CarriesOn
+pub mod BeginsSo
+pub mod FourteenExactly
 pub mod OneAnswer

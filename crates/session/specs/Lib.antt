@@ -1,6 +1,7 @@
 pub mod Reports
 pub mod Sound
 pub mod Moves
+pub mod Private
 pub mod Lines
 pub mod Stages
 pub mod Reply

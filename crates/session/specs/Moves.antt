@@ -1,6 +1,6 @@
 -- What a call hands back: the next request, an end, or the refusal of the state (document 01, "The session"). A session is
 -- rebuilt here, once for each part, and in `freshOf`. Assumes nothing.
-use Prim.Native.Nat.{ℕ, _+_, _<_}
+use Prim.Native.Nat.{ℕ, _+_}
 use mathlib.Core.Bool.{Bool}
 use Rattle.bus.specs.Bus.{noRequest}
 use Rattle.bus.specs.declared.Request.{Request}
@@ -12,13 +12,6 @@ use Rattle.session.specs.declared.Stage.the-variants.{Open, Ended}
 use Rattle.session.specs.declared.Awaited.{Awaited}
 use Rattle.session.specs.declared.Answer.the-variants.{Next, Over, BadState}
 use Rattle.session.specs.declared.Handed.{Handed}
-
--- what the stages use of a state that 15 lets pass
-pub record Ready (s : Session) : Type 0 where
-  pub sent-small : s .sent < 4294967295
-  pub polls-small : s .position .polls < 65535
-  pub config-small : s .position .config .0 < 8
-  pub configs-small : s .file .configs < 9
 
 unfoldable pub withStage : Session → Stage → Request → Session
 withStage s g q = record { settings = s .settings; file = s .file; stage = g; hand = q; position = s .position; sent = s .sent; burned = s .burned }

@@ -6,7 +6,7 @@ use bus::Bus;
 use counts::LineNumber;
 use line::Line;
 ghost use mathlib.Core.Path.{_≡_};
-ghost use Rattle.session.specs.Moves.{Ready};
+ghost use Rattle.session.specs.Private.Ready.{Ready};
 ghost use Rattle.session.specs.Lines.{duePutOf, tookOf, putLineOf, lineDoneOf};
 
 impl Session {

@@ -8,7 +8,8 @@ use bus::Bus;
 use bus::ReplyForm;
 use guide::Verdict;
 ghost use mathlib.Core.Path.{_≡_};
-ghost use Rattle.session.specs.Moves.{Ready, overOf};
+ghost use Rattle.session.specs.Moves.{overOf};
+ghost use Rattle.session.specs.Private.Ready.{Ready};
 ghost use Rattle.session.specs.Reply.{followOf, repliedOf, replyOf};
 
 impl Session {

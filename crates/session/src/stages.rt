@@ -10,7 +10,7 @@ use guide::Polled;
 use guide::Verdict;
 ghost use mathlib.Core.Path.{_≡_};
 ghost use Prim.Native.Nat.{_<_};
-ghost use Rattle.session.specs.Moves.{Ready};
+ghost use Rattle.session.specs.Private.Ready.{Ready};
 ghost use Rattle.session.specs.Stages.{counterDoneOf, identityDoneOf, flagDoneOf, revisionDoneOf, pollAgainOf, statusDoneOf, restoreOf, banksDoneOf, crcDoneOf};
 
 impl Session {

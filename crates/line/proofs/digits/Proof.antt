@@ -2,7 +2,7 @@
 use mathlib.Core.Path.{refl}
 use Rattle.pec.proofs.Entries.{follows}
 use Rattle.line.specs.Digits.{digitVal}
-use Rattle.line.proofs.Right.{keeps}
+use Rattle.line.proofs.LentIsRight.{keeps}
 use Rattle.line.proofs.digits.Statement.{statement}
 use Rattle.line.proofs.digits.Tie as tie
 

@@ -6,8 +6,8 @@ use Rattle.line.specs.Digits.{digitBy}
 use Rattle.line.specs.Lent.{byEnding}
 use Rattle.line.specs.declared.Ending.the-variants.{Other, Next}
 use Rattle.line.proofs.Basics.{via}
-use Rattle.line.proofs.Parts.{run-le}
-use Rattle.line.proofs.Right.{lent-here}
+use Rattle.line.proofs.LineParts.{run-le}
+use Rattle.line.proofs.LentIsRight.{lent-here}
 use borrow.Author.Needs.{needs}
 use Rattle.line.proofs.searched.Statement.{statement}
 use Rattle.line.proofs.searched.Tie as tie

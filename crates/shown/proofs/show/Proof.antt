@@ -3,7 +3,7 @@ use mathlib.Core.Path.{_≡_, sym, ap, _∙_}
 use Rattle.image.specs.declared.Checked.{Checked}
 use Rattle.image.specs.declared.FileAnswer.the-variants.{Accepted}
 use Rattle.image.specs.Check.{checkOf}
-use Rattle.image.proofs.Accepted.{sound}
+use Rattle.image.proofs.AcceptedHolds.{sound}
 use Rattle.shown.specs.Shown.{answerText, shown}
 use borrow.Author.Needs.{needs}
 use Rattle.shown.proofs.show.Statement.{statement}

@@ -1,7 +1,7 @@
 -- Both tables keep their rules. Assumes nothing.
 use mathlib.Core.Path.{ap, _∙_}
-use Rattle.line.proofs.Right.{read-is}
-use Rattle.image.specs.Walk.{lineIn}
+use Rattle.line.proofs.LentIsRight.{read-is}
+use Rattle.image.specs.Private.Walk.{lineIn}
 use borrow.Author.Needs.{needs}
 use Rattle.image.proofs.config_lines.line_at.Statement.{statement}
 use Rattle.image.proofs.config_lines.line_at.Tie as tie

@@ -1,5 +1,5 @@
 -- By what stands there. Assumes nothing.
-use Rattle.image.specs.Walk.{lineIn}
+use Rattle.image.specs.Private.Walk.{lineIn}
 use borrow.Author.Needs.{needs}
 use Rattle.image.proofs.config_lines.line_in.Statement.{statement}
 use Rattle.image.proofs.config_lines.line_in.Tie as tie

@@ -1,6 +1,6 @@
 -- As it is defined. Assumes nothing.
 use mathlib.Core.Path.{refl}
-use Rattle.image.specs.Walk.{noSpots}
+use Rattle.image.specs.Private.Walk.{noSpots}
 use Rattle.image.proofs.config_lines.no_spots.Statement.{statement}
 use Rattle.image.proofs.config_lines.no_spots.Tie as tie
 

@@ -1,6 +1,6 @@
 -- The same tests. Assumes nothing.
 use Rattle.line.proofs.Basics.{via}
-use Rattle.image.specs.Walk.{offSpot}
+use Rattle.image.specs.Private.Walk.{offSpot}
 use borrow.Author.Needs.{needs}
 use Rattle.image.proofs.config_lines.off_spot.Statement.{statement}
 use Rattle.image.proofs.config_lines.off_spot.Tie as tie

@@ -5,7 +5,7 @@ use Prim.Native.Nat.{_-_, _≤_}
 use native.Mathlib.Omega.{arith}
 use borrow.Author.Tests.{eq-eqb, ne-eqb}
 use Rattle.image.specs.Tests.{someBelow}
-use Rattle.image.specs.Walk.{sameAt, sameIn}
+use Rattle.image.specs.Private.Walk.{sameAt, sameIn}
 use Rattle.image.proofs.Pairs.{at-on, in-on, in-found}
 use borrow.Author.Needs.{needs}
 use Rattle.image.proofs.config_lines.same_in.Statement.{statement}

@@ -6,8 +6,8 @@ use native.Mathlib.Numerals.{add-one}
 use Rattle.counts.specs.Counts.{stepOf}
 use Rattle.line.specs.Lines.{placeOf}
 use Rattle.image.specs.declared.Marked.{Marked}
-use Rattle.image.specs.Walk.{spotsTo}
-use Rattle.image.proofs.Places.{place-start}
+use Rattle.image.specs.Private.Walk.{spotsTo}
+use Rattle.image.proofs.SpotPlaces.{place-start}
 use borrow.Author.Needs.{needs}
 use Rattle.image.proofs.config_lines.spots_of.Statement.{statement}
 use Rattle.image.proofs.config_lines.spots_of.Tie as tie

@@ -10,8 +10,8 @@ use Rattle.counts.specs.Counts.{configNumber, stepOf, crcPlace, identifierLine,
 use Rattle.line.specs.Lines.{placeOf}
 use Rattle.image.specs.declared.Marked.{Marked}
 use Rattle.image.specs.Says.{idOf, crcOf}
-use Rattle.image.specs.Walk.{lineAt, spotsWith}
-use Rattle.image.proofs.Places.{place-more, to-id, to-crc, to-next}
+use Rattle.image.specs.Private.Walk.{lineAt, spotsWith}
+use Rattle.image.proofs.SpotPlaces.{place-more, to-id, to-crc, to-next}
 use borrow.Author.Needs.{needs}
 use Rattle.image.proofs.config_lines.spots_with.Statement.{statement}
 use Rattle.image.proofs.config_lines.spots_with.Tie as tie

@@ -1,5 +1,5 @@
 -- As it is defined. Assumes nothing.
-use Rattle.image.specs.Cascade.{lastBeyond}
+use Rattle.image.specs.Private.Cascade.{lastBeyond}
 use borrow.Author.Needs.{needs}
 use Rattle.image.proofs.order.beyond.Statement.{statement}
 use Rattle.image.proofs.order.beyond.Tie as tie

@@ -2,7 +2,7 @@
 use mathlib.Core.Path.{ap, _∙_}
 use borrow.Author.Tests.{eq-eqb, ne-eqb}
 use Rattle.line.proofs.Basics.{via}
-use Rattle.image.specs.Cascade.{onConfigs, onSpots}
+use Rattle.image.specs.Private.Cascade.{onConfigs, onSpots}
 use borrow.Author.Needs.{needs}
 use Rattle.image.proofs.order.on_configs.Statement.{statement}
 use Rattle.image.proofs.order.on_configs.Tie as tie

@@ -4,9 +4,9 @@ use borrow.Author.Tests.{lt-ltb, le-ltb}
 use Rattle.line.specs.declared.Line.{Line}
 use Rattle.line.specs.Lines.{placeOf}
 use Rattle.counts.specs.Counts.{lineNumber, kindOf}
-use Rattle.image.specs.Walk.{lineAt}
-use Rattle.image.specs.Cascade.{onFacts, onKind}
-use Rattle.image.proofs.Places.{line-two, place-from}
+use Rattle.image.specs.Private.Walk.{lineAt}
+use Rattle.image.specs.Private.Cascade.{onFacts, onKind}
+use Rattle.image.proofs.SpotPlaces.{line-two, place-from}
 use borrow.Author.Needs.{needs}
 use Rattle.image.proofs.order.on_facts.Statement.{statement}
 use Rattle.image.proofs.order.on_facts.Tie as tie

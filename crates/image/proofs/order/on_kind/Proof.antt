@@ -3,8 +3,8 @@ use mathlib.Core.Path.{ap, _∙_}
 use native.Mathlib.Omega.{arith}
 use Rattle.line.proofs.Basics.{via}
 use Rattle.image.specs.Tests.{knownDevice}
-use Rattle.image.specs.Cascade.{onKind, onConfigs}
-use Rattle.image.proofs.Places.{line-one, configs-le}
+use Rattle.image.specs.Private.Cascade.{onKind, onConfigs}
+use Rattle.image.proofs.SpotPlaces.{line-one, configs-le}
 use borrow.Author.Needs.{needs}
 use Rattle.image.proofs.order.on_kind.Statement.{statement}
 use Rattle.image.proofs.order.on_kind.Tie as tie

@@ -5,9 +5,9 @@ use Rattle.counts.specs.Counts.{lineNumber}
 use Rattle.line.specs.Lines.{placeOf}
 use Rattle.line.proofs.Basics.{via}
 use Rattle.image.specs.Says.{identityOf}
-use Rattle.image.specs.Walk.{lineAt}
-use Rattle.image.specs.Cascade.{onSpots}
-use Rattle.image.proofs.Places.{line-one, place-from}
+use Rattle.image.specs.Private.Walk.{lineAt}
+use Rattle.image.specs.Private.Cascade.{onSpots}
+use Rattle.image.proofs.SpotPlaces.{line-one, place-from}
 use borrow.Author.Needs.{needs}
 use Rattle.image.proofs.order.on_spots.Statement.{statement}
 use Rattle.image.proofs.order.on_spots.Tie as tie

@@ -1,5 +1,5 @@
 -- By the case of the walk. Assumes nothing.
-use Rattle.image.specs.Cascade.{onTold}
+use Rattle.image.specs.Private.Cascade.{onTold}
 use borrow.Author.Needs.{needs}
 use Rattle.image.proofs.order.on_told.Statement.{statement}
 use Rattle.image.proofs.order.on_told.Tie as tie

@@ -1,5 +1,5 @@
 -- As it is defined. Assumes nothing.
-use Rattle.image.specs.Cascade.{refusedBy}
+use Rattle.image.specs.Private.Cascade.{refusedBy}
 use borrow.Author.Needs.{needs}
 use Rattle.image.proofs.order.refused_by.Statement.{statement}
 use Rattle.image.proofs.order.refused_by.Tie as tie

@@ -5,10 +5,10 @@ use native.Mathlib.Omega.{arith}
 use lib.ListN.{length, drop}
 use Rattle.line.specs.Lines.{linesOf}
 use Rattle.line.proofs.Basics.{via}
-use Rattle.line.proofs.Right.{read-is}
+use Rattle.line.proofs.LentIsRight.{read-is}
 use Rattle.counts.specs.Counts.{lineNumber}
-use Rattle.image.specs.Walk.{factsFrom, start}
-use Rattle.image.proofs.Steps.{facts-end, facts-stop, facts-took, with-lines}
+use Rattle.image.specs.Private.Walk.{factsFrom, start}
+use Rattle.image.proofs.WalkSteps.{facts-end, facts-stop, facts-took, with-lines}
 use borrow.Author.Needs.{needs}
 use Rattle.image.proofs.walk.facts_of.Statement.{statement}
 use Rattle.image.proofs.walk.facts_of.Tie as tie

@@ -1,5 +1,5 @@
 -- Field by field. Assumes nothing.
-use Rattle.image.specs.Walk.{factsWith}
+use Rattle.image.specs.Private.Walk.{factsWith}
 use borrow.Author.Needs.{needs}
 use Rattle.image.proofs.walk.facts_with.Statement.{statement}
 use Rattle.image.proofs.walk.facts_with.Tie as tie

@@ -5,8 +5,8 @@ use Prim.Native.Nat.{_+_, _-_, _≤_}
 use native.Mathlib.Omega.{arith}
 use lib.ListN.{length, drop}
 use borrow.Author.Tests.{eq-eqb, ne-eqb}
-use Rattle.line.specs.Quick.{lineEnds}
-use Rattle.line.proofs.Counted.{ends-lf, ends-other, ends-past}
+use Rattle.line.specs.Private.Quick.{lineEnds}
+use Rattle.line.proofs.BlockCounts.{ends-lf, ends-other, ends-past}
 use borrow.Author.Needs.{needs}
 use Rattle.line.proofs.blocks.ends_in.Statement.{statement}
 use Rattle.line.proofs.blocks.ends_in.Tie as tie

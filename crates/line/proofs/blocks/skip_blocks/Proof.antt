@@ -5,9 +5,9 @@ use native.Mathlib.Omega.{arith}
 use lib.ListN.{length, take, drop, length-take}
 use borrow.Author.Tests.{leb-true}
 use Rattle.line.specs.Lines.{placeOf}
-use Rattle.line.specs.Quick.{lineEnds}
+use Rattle.line.specs.Private.Quick.{lineEnds}
 use Rattle.line.proofs.Basics.{via}
-use Rattle.line.proofs.Counted.{skip-block}
+use Rattle.line.proofs.BlockCounts.{skip-block}
 use borrow.Author.Needs.{needs}
 use Rattle.line.proofs.blocks.skip_blocks.Statement.{statement}
 use Rattle.line.proofs.blocks.skip_blocks.Tie as tie

@@ -6,7 +6,7 @@ use native.Mathlib.Omega.{arith}
 use lib.ListN.{length, getD, drop}
 use borrow.Author.Tests.{lt-ltb, le-ltb}
 use Rattle.line.specs.Digits.{digitRun, digitBy, isDigit}
-use Rattle.line.proofs.Parts.{run-on, run-stop, run-past}
+use Rattle.line.proofs.LineParts.{run-on, run-stop, run-past}
 use borrow.Author.Needs.{needs}
 use Rattle.line.proofs.scan.run_end.Statement.{statement}
 use Rattle.line.proofs.scan.run_end.Tie as tie

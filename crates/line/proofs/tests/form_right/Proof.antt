@@ -1,7 +1,7 @@
 -- The fields of the line. Assumes nothing.
 use Rattle.line.specs.Digits.{digitBy}
 use Rattle.line.specs.Reading.{formRight}
-use Rattle.line.proofs.Parts.{values-length}
+use Rattle.line.proofs.LineParts.{values-length}
 use borrow.Author.Needs.{needs}
 use Rattle.line.proofs.tests.form_right.Statement.{statement}
 use Rattle.line.proofs.tests.form_right.Tie as tie

@@ -1,7 +1,7 @@
 -- Half the digits are the values. Assumes nothing.
 use Rattle.line.specs.Digits.{digitBy}
 use Rattle.line.specs.Reading.{lengthRight}
-use Rattle.line.proofs.Parts.{values-length}
+use Rattle.line.proofs.LineParts.{values-length}
 use borrow.Author.Needs.{needs}
 use Rattle.line.proofs.tests.length_right.Statement.{statement}
 use Rattle.line.proofs.tests.length_right.Tie as tie

@@ -6,7 +6,7 @@ use native.Mathlib.Omega.{arith}
 use lib.ListN.{length, getD, drop}
 use borrow.Author.Tests.{lt-ltb, le-ltb}
 use Rattle.line.specs.Digits.{digitBy, isDigit, allDigits}
-use Rattle.line.proofs.Parts.{digits-on, digits-stop, digits-past}
+use Rattle.line.proofs.LineParts.{digits-on, digits-stop, digits-past}
 use borrow.Author.Needs.{needs}
 use Rattle.line.proofs.usual.all_digits.Statement.{statement}
 use Rattle.line.proofs.usual.all_digits.Tie as tie

@@ -1,5 +1,5 @@
 -- The same tests in the same order. Assumes nothing.
-use Rattle.line.specs.Quick.{headed}
+use Rattle.line.specs.Private.Quick.{headed}
 use Rattle.counts.proofs.Tests.{tests}
 use borrow.Author.Needs.{needs}
 use Rattle.line.proofs.usual.headed.Statement.{statement}

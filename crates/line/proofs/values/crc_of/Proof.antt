@@ -7,7 +7,7 @@ use lib.Seq.{slice}
 use Rattle.pec.specs.Lent.{runWith}
 use Rattle.line.specs.Digits.{digitBy, valuesOf}
 use Rattle.line.specs.Reading.{coveredOf}
-use Rattle.line.proofs.Parts.{values-length, code-on, code-end}
+use Rattle.line.proofs.LineParts.{values-length, code-on, code-end}
 use borrow.Author.Needs.{needs}
 use Rattle.line.proofs.values.crc_of.Statement.{statement}
 use Rattle.line.proofs.values.crc_of.Tie as tie

@@ -4,7 +4,7 @@ use Prim.Native.Nat.{_-_}
 use lib.ListN.{length}
 use native.Mathlib.Omega.{arith}
 use Rattle.line.specs.Digits.{digitBy, valuesOf}
-use Rattle.line.proofs.Parts.{values-length, slice-get, slice-past}
+use Rattle.line.proofs.LineParts.{values-length, slice-get, slice-past}
 use borrow.Author.Needs.{needs}
 use Rattle.line.proofs.values.data_at.Statement.{statement}
 use Rattle.line.proofs.values.data_at.Tie as tie

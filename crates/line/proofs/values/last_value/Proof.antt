@@ -4,7 +4,7 @@ use Prim.Native.Nat.{_-_}
 use native.Mathlib.Omega.{arith}
 use lib.ListN.{length}
 use Rattle.line.specs.Digits.{digitBy, valuesOf}
-use Rattle.line.proofs.Parts.{values-length, values-past}
+use Rattle.line.proofs.LineParts.{values-length, values-past}
 use borrow.Author.Needs.{needs}
 use Rattle.line.proofs.values.last_value.Statement.{statement}
 use Rattle.line.proofs.values.last_value.Tie as tie

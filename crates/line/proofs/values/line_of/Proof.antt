@@ -1,7 +1,7 @@
 -- Each field by its place. Assumes nothing.
 use Rattle.line.specs.Digits.{digitBy}
 use Rattle.line.specs.Reading.{lineOf}
-use Rattle.line.proofs.Parts.{values-length}
+use Rattle.line.proofs.LineParts.{values-length}
 use borrow.Author.Needs.{needs}
 use Rattle.line.proofs.values.line_of.Statement.{statement}
 use Rattle.line.proofs.values.line_of.Tie as tie

@@ -2,7 +2,7 @@
 use mathlib.Core.Path.{sym}
 use native.Mathlib.Omega.{arith}
 use Rattle.line.specs.Digits.{digitBy, pairVal}
-use Rattle.line.proofs.Parts.{values-at, values-past}
+use Rattle.line.proofs.LineParts.{values-at, values-past}
 use borrow.Author.Needs.{needs}
 use Rattle.line.proofs.values.value_at.Statement.{statement}
 use Rattle.line.proofs.values.value_at.Tie as tie

@@ -1,0 +1,76 @@
+-- Counting the burn's bytes among requests tells whether the burn is one of them; and replies in form to the guide's requests are
+-- what the bytes say. Assumes nothing.
+use mathlib.Core.Path.{_≡_, refl}
+use mathlib.Core.Logic.{⊎-elim}
+use mathlib.Core.Bool.{Bool, true, false, cond}
+use mathlib.Core.List.{List, [], _∷_, _++_, List·Memᴰ, List·Memᴰ·head, List·Memᴰ·tail, List·Memᴰ·cases-cons, List·Memᴰ·not-nil}
+use Prim.Native.Nat.{ℕ, suc, _+_, _≤_}
+use native.Mathlib.Omega.{arith}
+use Rattle.image.specs.Says.{summaryOf}
+use Rattle.bus.specs.declared.Request.{Request}
+use Rattle.bus.specs.declared.ReplyForm.the-variants.{Good}
+use Rattle.bus.specs.Bus.{eight, writeOf}
+use Rattle.bus.specs.InForm.{Made, write, register, block, Says, Means}
+use Rattle.bus.proofs.FormMeans.{form-means}
+use Rattle.guide.specs.Plan.{Reply, Asked, requests}
+use Rattle.guide.specs.Guide.{lineRequest, writeLinesOf, guideFor}
+use Rattle.guide.specs.Statements.{sameBytes, burnBytes, spellings, AllInForm}
+use Rattle.guide.specs.Statements as said
+use Rattle.guide.proofs.Every.{every-request, Other, point, word, identity, revision, set, command, load, guide-every}
+use Rattle.demands.specs.Runs.{bare}
+use Rattle.demands.specs.Headline.{burn, Answered, none, more}
+
+-- ---- the burn's bytes
+
+pub spellings-append : (a b : List Asked) → spellings (a ++ b) ≡ spellings a + spellings b
+unfolding spellings
+spellings-append [] b = omega arith
+spellings-append (q ∷ a) b = one (sameBytes (q .request .bytes) (eight burnBytes)) (spellings-append a b)
+  where
+    one : (c : Bool) → spellings (a ++ b) ≡ spellings a + spellings b
+        → cond c (suc (spellings (a ++ b))) (spellings (a ++ b)) ≡ cond c (suc (spellings a)) (spellings a) + spellings b
+    one true e = omega arith
+    one false e = e
+
+pub burn-spelled : sameBytes (burn .bytes) (eight burnBytes) ≡ true
+unfolding sameBytes eight
+burn-spelled = refl
+
+pub mem-spelled : (qs : List Asked) → List·Memᴰ burn (bare qs) → 1 ≤ spellings qs
+unfolding bare spellings
+mem-spelled [] m = absurd (List·Memᴰ·not-nil m)
+mem-spelled (q ∷ qs) m =
+    ⊎-elim
+    (λ (e : burn ≡ q .request). let s : sameBytes (q .request .bytes) (eight burnBytes) ≡ true = rw (← e) burn-spelled in rw s (omega arith))
+    (λ n. one (sameBytes (q .request .bytes) (eight burnBytes)) (mem-spelled qs n)) (List·Memᴰ·cases-cons m)
+  where
+    one : (c : Bool) → 1 ≤ spellings qs → 1 ≤ cond c (suc (spellings qs)) (spellings qs)
+    one true h = omega arith
+    one false h = h
+
+-- ---- replies in form
+
+pub said-in-form : (qs : List Asked) (rs : List Reply) → ((q : Asked) → List·Memᴰ q qs → Made (q .request)) → AllInForm qs rs → Answered (bare qs) rs
+unfolding bare Says Means
+said-in-form _ _ made (said.none rs) = none rs
+said-in-form _ _ made (said.more q qs r rs w e f) =
+    more (q .request) (bare qs) r rs w (form-means (made q (List·Memᴰ·head refl)) (r .kind) (r .bytes) (Good w) .0 e)
+    (said-in-form qs rs (λ p m. made p (List·Memᴰ·tail m)) f)
+
+-- every request of the guide is a write or a read
+module _ (text : List ℕ) (wanted : Bool) (limit restore : ℕ) (rs : List Reply) where
+  other-made : (q : Request) → Other (summaryOf text) restore q → Made q
+  unfolding writeOf
+  other-made _ (point low high) = write _ _
+  other-made _ word = register
+  other-made _ identity = block _
+  other-made _ revision = block _
+  other-made _ (set w) = write _ _
+  other-made _ command = write _ _
+  other-made _ (load N) = write _ _
+
+  pub guide-made : (q : Asked) → List·Memᴰ q (requests (guideFor text wanted limit restore) rs) → Made (q .request)
+  unfolding guideFor writeLinesOf lineRequest
+  guide-made q m =
+      let every = guide-every {P = λ q. Made (q .request)} (summaryOf text) restore other-made _ wanted limit (λ j h. write _ _) in
+      every-request {P = λ q. Made (q .request)} every rs q m

@@ -1,0 +1,52 @@
+-- A device that an accepted file fits; and what such a file says fits four bytes. Assumes nothing.
+use mathlib.Core.Path.{_≡_, refl}
+use mathlib.Core.Logic.{_⊎_, inl, inr}
+use mathlib.Core.List.{List, []}
+use Prim.Native.Nat.{ℕ, _+_, _-_, _<_, _≤_}
+use native.Mathlib.Omega.{arith}
+use lib.ListN.{getD}
+use Rattle.line.specs.Lines.{linesOf}
+use Rattle.counts.specs.declared.Kind.{Kind}
+use Rattle.counts.specs.declared.Kind.the-variants.{Legacy, Production}
+use Rattle.line.specs.Digits.{digitVal}
+use Rattle.line.proofs.LineParts.{values-lt}
+use Rattle.line.proofs.Spelling.{spells-values}
+use Rattle.image.specs.declared.Summary.{Summary}
+use Rattle.image.specs.Says.{word}
+use Rattle.image.specs.Meets.{dataIn, numbered, Meets}
+use Rattle.image.proofs.LinesAndBytes.{spells-at}
+use Rattle.guide.specs.Matched.{Fits}
+
+-- ---- a device that the file fits
+
+unfoldable pub counterFor : Kind → ℕ
+counterFor Legacy = 27
+counterFor Production = 28
+
+pub counter-is : (kind : Kind) → (8 ≤ counterFor kind) × (counterFor kind ≤ 28)
+unfolding counterFor
+counter-is Legacy = (omega arith, omega arith)
+counter-is Production = (omega arith, omega arith)
+
+pub fitting : (file : Summary) → file .configs ≤ 8 → Fits file (counterFor (file .kind)) (file .identity) 0 100663296
+unfolding counterFor
+fitting file few =
+    let c = counter-is (file .kind) in
+    record { counted = c .1; same = refl; young = omega arith; kind = by (file .kind) refl 0 refl; places = omega arith }
+  where
+    by : (k : Kind) → file .kind ≡ k → (flag : ℕ) → flag ≡ 0
+        → ((file .kind ≡ Legacy) × (flag ≡ 0) × (counterFor (file .kind) < 28))
+        ⊎ ((file .kind ≡ Production) × ((flag ≡ 0xFFFE0001) ⊎ (counterFor (file .kind) ≡ 28)))
+    by Legacy e flag f = inl (e, f, rw e (omega arith))
+    by Production e flag f = inr (e, inr (rw e))
+
+-- ---- what an accepted file says fits four bytes
+
+module _ (text : List ℕ) (m : Meets text) where
+  byte-lt : (n i : ℕ) → dataIn i (numbered (m .values) n) < 256
+  byte-lt n i = rw (spells-values (spells-at (m .spelled) (n - 1))) at (values-lt digitVal (getD (linesOf text) (n - 1) []) (4 + i))
+
+  pub word-lt : (n a b c d : ℕ)
+      → let v = numbered (m .values) n in word (dataIn a v) (dataIn b v) (dataIn c v) (dataIn d v) < 4294967296
+  unfolding word
+  word-lt n a b c d = omega (arith, byte-lt n a, byte-lt n b, byte-lt n c, byte-lt n d)

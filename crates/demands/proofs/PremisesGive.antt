@@ -1,0 +1,85 @@
+-- What an accepted file and allowed settings leave known to a session: the text holds the guide's write lines from the place that
+-- the summary names, and 15 lets the file and the settings pass. Assumes nothing.
+use mathlib.Core.Path.{_≡_, refl, sym, ap, _∙_}
+use mathlib.Core.List.{List, [], _∷_}
+use mathlib.Core.Bool.{true}
+use Prim.Native.Nat.{ℕ, zero, suc, _≤_, _<_}
+use native.Mathlib.Omega.{arith}
+use lib.ListN.{getD, take, drop}
+use borrow.Author.Tests.{le-leb, eq-eqb}
+use Rattle.counts.specs.declared.ConfigId.{ConfigId}
+use Rattle.counts.specs.Counts.{configId}
+use Rattle.line.specs.declared.Line.{Line}
+use Rattle.line.specs.Lines.{linesOf}
+use Rattle.image.specs.declared.FileAnswer.the-variants.{Accepted}
+use Rattle.image.specs.Says.{summaryOf}
+use Rattle.image.specs.Check.{checkOf}
+use Rattle.image.specs.Meets.{Meets}
+use Rattle.image.proofs.Holds.{Sound}
+use Rattle.image.proofs.WalkSays.{lineSays, saysOf}
+use Rattle.image.proofs.TestsPass.{answer-is, summary-is}
+use Rattle.image.proofs.AcceptedExactly.{zero-accepts, accepted-exactly}
+use Rattle.image.proofs.AcceptedHolds.{held-writes, burn-writes, sound}
+use Rattle.guide.specs.Guide.{linesAs, writeLinesOf}
+use Rattle.guide.proofs.FileFacts.{lines-are, some-line}
+use Rattle.guide.proofs.OfText.{accepted-facts}
+use Rattle.session.specs.declared.Settings.{Settings}
+use Rattle.session.specs.Sound.{all, idsSound, fileTests, fileSound}
+use Rattle.demands.specs.Demands.{Premises}
+use Rattle.demands.proofs.WhereItStands.{Kept}
+use Rattle.demands.proofs.SettingsSay.{allowed-is}
+
+-- ---- the file
+
+-- the checker's lines are the guide's
+says-drop : (k : ℕ) (ts : List (List ℕ)) → drop k (saysOf ts) ≡ linesAs (drop k ts)
+unfolding saysOf linesAs
+says-drop zero [] = refl
+says-drop zero (t ∷ ts) = ap (λ (ls : List Line). lineSays t ∷ ls) (says-drop zero ts)
+says-drop (suc k) [] = refl
+says-drop (suc k) (t ∷ ts) = says-drop k ts
+
+ids-sound : (ids : List ConfigId) (k : ℕ) → ((N : ℕ) → N < k → getD ids N (configId 0) .0 ≤ 15) → idsSound (take k ids) ≡ true
+unfolding idsSound
+ids-sound ids zero f = refl
+ids-sound [] (suc k) f = refl
+ids-sound (i ∷ is) (suc k) f = rw (le-leb (i .0) 15 (f 0 (omega arith))) (ids-sound is k (λ N h. f (suc N) (omega arith)))
+
+module _ (S : Settings) (text : List ℕ) (P : Premises S text) where
+  pub taken : checkOf text .answer ≡ Accepted
+  taken = zero-accepts (checkOf text .answer) (P .accepted)
+
+  pub told : checkOf text .summary ≡ summaryOf text
+  told = summary-is text (sym (answer-is text) ∙ taken)
+
+  pub meets : Meets text
+  meets = accepted-exactly text .accepted-meets (P .accepted)
+
+  file-sound : fileSound (summaryOf text) ≡ true
+  unfolding fileSound fileTests all
+  file-sound =
+      let f : Sound (summaryOf text) = rw told at (sound text taken) in
+      let file = summaryOf text in
+      rw (
+        le-leb 1 (file .configs) (f .some),
+        le-leb (file .configs) 8 (f .few),
+        eq-eqb (file .lines) _ (f .count),
+        ids-sound (file .ids) (file .configs) (f .ids),
+      )
+
+  pub kept : Kept text (writeLinesOf text) S (summaryOf text)
+  unfolding writeLinesOf
+  kept =
+      let f : Sound (summaryOf text) = rw told at (sound text taken) in
+      let ls : drop 4 (saysOf (linesOf text)) ≡ writeLinesOf text = says-drop 4 (linesOf text) in
+      let facts = accepted-facts text taken in
+      record {
+        allowed = P .allowed;
+        sound = file-sound;
+        somePoll = allowed-is S (P .allowed) .some;
+        someConfig = f .some;
+        someLine = some-line text facts;
+        linesAre = lines-are text facts;
+        holds = rw ls at (held-writes text taken);
+        burns = rw ls at (burn-writes text taken);
+      }

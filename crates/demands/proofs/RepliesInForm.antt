@@ -1,0 +1,129 @@
+-- For each exchange there is a reply in form that tells its word: a write's is kind 1 and no bytes, a read's the word's four bytes,
+-- lowest first, and their PEC. Assumes nothing.
+use mathlib.Core.Path.{_≡_, ap, _∙_}
+use mathlib.Core.Bool.{Bool, true, false}
+use mathlib.Core.List.{List, [], _∷_, _++_, List·Memᴰ, List·Memᴰ·head, List·Memᴰ·tail, List·Memᴰ·not-nil}
+use Prim.Native.Nat.{ℕ, zero, suc, _+_, _%_, _/_, _<_}
+use native.Mathlib.Omega.{arith}
+use lib.ListN.{getD}
+use Rattle.pec.proofs.Laws.{pec-lt}
+use Rattle.line.specs.declared.Line.{Line}
+use Rattle.image.specs.declared.Summary.{Summary}
+use Rattle.bus.specs.declared.ReplyForm.the-variants.{Good}
+use Rattle.bus.specs.Bus.{framed, writeOf, readData, readBlock}
+use Rattle.bus.specs.ReplyForm.{formOf}
+use Rattle.bus.specs.InForm.{write, register, block, registerPec, blockPec, wrote as wroteBytes, registerRead, blockRead, Says, Means}
+use Rattle.bus.proofs.FormMeans.{form-means}
+use Rattle.guide.specs.Plan.{Reply}
+use Rattle.guide.specs.Guide.{lineRequest, crcIn}
+use Rattle.guide.specs.Matched.{Exchange, wrote, got, Heard, none, more, opening}
+use Rattle.guide.specs.Statements.{heard3, heard6}
+use Rattle.demands.specs.Demands.{OfBytes}
+
+abbrev Can : Exchange → Type 0
+Can x = (r : Reply) × (formOf (x .request) (r .kind) (r .bytes) ≡ Good (x .word)) × OfBytes r
+
+abbrev done : List ℕ → Reply
+done bs = record { kind = 1; bytes = bs }
+
+-- ---- lists of bytes
+
+data Bytes : List ℕ → Type 0 where
+  empty : Bytes []
+  byte : (b : ℕ) {bs : List ℕ} → b < 256 → Bytes bs → Bytes (b ∷ bs)
+
+each-byte : {bs : List ℕ} → Bytes bs → (i : ℕ) → getD bs i 0 < 256
+each-byte empty i = omega arith
+each-byte (byte b h f) zero = h
+each-byte (byte b h f) (suc i) = each-byte f i
+
+of-bytes : {bs : List ℕ} → Bytes bs → OfBytes (done bs)
+of-bytes f = record { kind = omega arith; bytes = each-byte f }
+
+-- ---- the exchanges that have a reply
+
+pub data Able : List Exchange → Type 0 where
+  end : Able []
+  and : {x : Exchange} {xs : List Exchange} → Can x → Able xs → Able (x ∷ xs)
+
+pub able-both : {xs ys : List Exchange} → Able xs → Able ys → Able (xs ++ ys)
+able-both end b = b
+able-both (and c a) b = and c (able-both a b)
+
+pub able-answered : {xs : List Exchange} → Able xs → (rs : List Reply) × Heard xs rs × ((r : Reply) → List·Memᴰ r rs → OfBytes r)
+able-answered end = ([], none [], λ r m. absurd (List·Memᴰ·not-nil m))
+able-answered (and {x} {xs} c a) =
+    let b = able-answered a in
+    (c .0 ∷ b .0, more x xs (c .0) (b .0) (c .1) (b .1), all (c .2) (b .2))
+  where
+    all : {r : Reply} {rs : List Reply} → OfBytes r → ((q : Reply) → List·Memᴰ q rs → OfBytes q) → (q : Reply) → List·Memᴰ q (r ∷ rs) → OfBytes q
+    all h f q (List·Memᴰ·head e) = rw e h
+    all h f q (List·Memᴰ·tail m) = f q m
+
+-- ---- each kind of exchange
+
+pub can-write : (sent : List ℕ) (p : ℕ) → Can (wrote (framed sent p))
+unfolding Means Says
+can-write sent p = (done [], form-means (write sent p) 1 [] (Good 0) .1 (wroteBytes sent p), of-bytes empty)
+
+module _ (w : ℕ) (h : w < 4294967296) where
+  abbrev a : ℕ
+  a = w % 256
+
+  abbrev b : ℕ
+  b = w / 256 % 256
+
+  abbrev c : ℕ
+  c = w / 256 / 256 % 256
+
+  abbrev d : ℕ
+  d = w / 256 / 256 / 256 % 256
+
+  -- the word's bytes, and a PEC behind them
+  word-bytes : (p : ℕ) → p < 256 → Bytes (a ∷ b ∷ c ∷ d ∷ p ∷ [])
+  word-bytes p h = byte a (omega arith) (byte b (omega arith) (byte c (omega arith) (byte d (omega arith) (byte p h empty))))
+
+  pub can-read : Can (got readData w)
+  unfolding Means Says
+  can-read = (
+    done (a ∷ b ∷ c ∷ d ∷ registerPec a b c d ∷ []),
+    form-means register 1 _ (Good _) .1 (registerRead a b c d) ∙ ap Good (omega arith),
+    of-bytes (word-bytes _ (pec-lt _)),
+  )
+
+  pub can-block : (command : ℕ) → Can (got (readBlock command) w)
+  unfolding Means Says
+  can-block command = (
+    done (4 ∷ a ∷ b ∷ c ∷ d ∷ blockPec command a b c d ∷ []),
+    form-means (block command) 1 _ (Good _) .1 (blockRead command a b c d) ∙ ap Good (omega arith),
+    of-bytes (byte 4 (omega arith) (word-bytes _ (pec-lt _))),
+  )
+
+-- ---- the steps
+
+pub able-opening : (wanted : Bool) (counter identity flag revision : ℕ)
+    → counter < 4294967296 → identity < 4294967296 → flag < 4294967296 → revision < 4294967296
+    → Able (opening wanted 0 counter identity flag revision)
+unfolding opening writeOf
+able-opening wanted counter identity flag revision e f g h = by wanted
+  where
+    step2 : Able (opening false 0 counter identity flag revision)
+    step2 =
+        and (can-write _ _) (and (can-read counter e) (and (can-block identity f _)
+        (and (can-write _ _) (and (can-read flag g) (and (can-block revision h _) end)))))
+
+    by : (b : Bool) → Able (opening b 0 counter identity flag revision)
+    by true = and (can-write _ _) (and (can-read 0 (omega arith)) (and (can-write _ _) (and (can-write _ _) step2)))
+    by false = step2
+
+pub able-lines : (ls : List Line) → Able (heard3 ls)
+unfolding heard3 lineRequest
+able-lines [] = end
+able-lines (l ∷ ls) = and (can-write _ _) (able-lines ls)
+
+pub able-crcs : (file : Summary) (restore left N : ℕ) → ((i : ℕ) → i < N + left → crcIn file i < 4294967296) → Able (heard6 file restore left N)
+unfolding heard6 writeOf
+able-crcs file restore zero N f = end
+able-crcs file restore (suc left) N f =
+    and (can-write _ _) (and (can-write _ _) (and (can-read (crcIn file N) (f N (omega arith)))
+    (able-crcs file restore left (N + 1) (λ i h. f i (omega arith)))))

@@ -1,0 +1,64 @@
+-- 14 exactly where a setting is out of its range. Assumes nothing.
+use Prim.Native.Nat.{ℕ}
+use mathlib.Core.Path.{_≡_, refl, sym, ap, _∙_}
+use mathlib.Core.List.{List}
+use native.Mathlib.Omega.{arith}
+use Rattle.counts.specs.declared.LineNumber.{LineNumber}
+use Rattle.counts.specs.declared.ConfigNumber.{ConfigNumber}
+use Rattle.line.specs.declared.Fault.{Fault}
+use Rattle.line.specs.declared.Fault.the-variants.{Char, Pairs, Length, Crc, Form}
+use Rattle.line.specs.Reading.{faultNumber}
+use Rattle.line.proofs.Basics.{split}
+use Rattle.image.specs.declared.Summary.{Summary}
+use Rattle.image.specs.declared.Refusal.{Refusal}
+use Rattle.image.specs.declared.Refusal.the-variants.{Size, Line, Count, Revision, Device, Burn, Spot, Beyond, Same}
+use Rattle.image.specs.declared.FileAnswer.{FileAnswer}
+use Rattle.image.specs.declared.FileAnswer.the-variants.{Accepted, Refused}
+use Rattle.image.specs.Check.{refusalNumber, checkOf}
+use Rattle.session.specs.declared.Settings.{Settings}
+use Rattle.session.specs.declared.Report.the-variants.{Waiting, Is}
+use Rattle.session.specs.Reports.{reportOf}
+use Rattle.session.specs.Sound.{allowedOf}
+use Rattle.session.specs.Moves.{overOf}
+use Rattle.session.specs.Begin.{refusedOf, answeredOf}
+use Rattle.session.specs.Statements.{FourteenExactly}
+use Rattle.session.proofs.Laws.{begin-not}
+use Rattle.session.proofs.SettingsOut.{out-refused, refused-out}
+use Rattle.session.proofs.BeginsSo.{started, begun}
+
+-- no file's refusal is 14
+fault-not : {A : Type 0} (f : Fault) → faultNumber f ≡ 14 → A
+fault-not Char e = absurd (let y : ⊥ = omega arith in y)
+fault-not Pairs e = absurd (let y : ⊥ = omega arith in y)
+fault-not Length e = absurd (let y : ⊥ = omega arith in y)
+fault-not Crc e = absurd (let y : ⊥ = omega arith in y)
+fault-not Form e = absurd (let y : ⊥ = omega arith in y)
+
+refusal-not : {A : Type 0} (r : Refusal) → refusalNumber r ≡ 14 → A
+refusal-not Size e = absurd (let y : ⊥ = omega arith in y)
+refusal-not (Line n fault) e = fault-not fault e
+refusal-not Count e = absurd (let y : ⊥ = omega arith in y)
+refusal-not Revision e = absurd (let y : ⊥ = omega arith in y)
+refusal-not Device e = absurd (let y : ⊥ = omega arith in y)
+refusal-not Burn e = absurd (let y : ⊥ = omega arith in y)
+refusal-not Spot e = absurd (let y : ⊥ = omega arith in y)
+refusal-not Beyond e = absurd (let y : ⊥ = omega arith in y)
+refusal-not Same e = absurd (let y : ⊥ = omega arith in y)
+
+module _ (S : Settings) where
+  answered-not : {A : Type 0} (f : Summary) (a : FileAnswer) (l : LineNumber) (N : ConfigNumber) → reportOf (answeredOf S f a .answer) ≡ Is 14 l N → A
+  unfolding answeredOf refusedOf overOf reportOf
+  answered-not f Accepted l N e =
+      let w : Waiting ≡ Is 14 l N = sym (ap reportOf (started S f)) ∙ e in
+      let z : _≡_ {A = ℕ} 0 1 = cc in absurd (let y : ⊥ = omega arith in y)
+  answered-not f (Refused r) l N e = refusal-not r (cc)
+
+module _ (S : Settings) (text : List ℕ) where
+  pub fourteen-exactly : FourteenExactly S text
+  unfolding refusedOf overOf reportOf
+  fourteen-exactly =
+      record {
+        only = λ l N e.
+            split (allowedOf S) (λ a. answered-not S (checkOf text .summary) (checkOf text .answer) l N (rw (← begun S text a) at e)) (refused-out S);
+        when = λ o. rw (← begin-not S text (out-refused S o)) refl;
+      }
