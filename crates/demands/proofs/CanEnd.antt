@@ -10,13 +10,12 @@ use Rattle.image.specs.Says.{summaryOf}
 use Rattle.image.specs.Meets.{Meets}
 use Rattle.image.proofs.SummarySays.{summary-says}
 use Rattle.bus.specs.Bus.{writeOf, pointTo, readData}
-use Rattle.guide.specs.Judged.{banksWord}
 use Rattle.guide.specs.Plan.{Reply, Asked, requests}
 use Rattle.guide.specs.Guide.{crcIn, writeLinesOf}
 use Rattle.guide.specs.Matched.{Exchange, wrote, got, Heard, opening, Matched}
 use Rattle.guide.specs.Statements.{isBurnMark, burnsIn, beforeBurn, AllInForm, none, more, heard3, heard4, heard6, DoneWhen}
 use Rattle.guide.proofs.FileFacts.{few-configs}
-use Rattle.guide.proofs.Banks.{word-small, word-are}
+use Rattle.guide.proofs.Banks.{banksWord, word-small, word-are}
 use Rattle.guide.proofs.Through.{answered, through, split-answered, leads-requests, form-before}
 use Rattle.guide.proofs.DoneExactly.{leading, done-exactly}
 use Rattle.guide.proofs.OfText.{accepted-burns}
@@ -115,8 +114,8 @@ module _ (S : Settings) (text : List ℕ) (P : Premises S text) where
         polls = kept S text P .somePoll;
         clear = λ i h. absurd (let y : ⊥ = omega arith in y);
         passed = refl;
-        reported = word-are (file .configs) (few-configs text) .reported;
-        unused = word-are (file .configs) (few-configs text) .unused;
+        reported = word-are (file .configs) .reported;
+        unused = word-are (file .configs) .unused;
       }
 
   -- every request was answered in form, so those before the burn were

@@ -76,8 +76,3 @@ bankRight k word b = eqb (bankIn word (bank b)) (cond (reportsIn k (bank b)) 1 0
 -- all eight banks
 unfoldable pub banksRight : ℕ → ℕ → Bool
 banksRight k word = everyBelow 8 (bankRight k word)
-
--- the hex digit 1 in the k lowest places
-unfoldable pub banksWord : ℕ → ℕ
-banksWord zero = 0
-banksWord (suc k) = banksWord k * 16 + 1

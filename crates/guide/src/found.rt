@@ -1,9 +1,9 @@
 // Steps 4 and 5: what the status and the banks come to.
 use crate::Polled;
+use counts::Bank;
+use counts::ConfigNumber;
 ghost use mathlib.Core.Path.{_≡_};
-ghost use lib.Dec.{eqb};
-ghost use Prim.Native.Nat.{ℕ, _<_};
-ghost use Rattle.guide.specs.Judged.{polledOf, banksRight};
+ghost use Rattle.guide.specs.Judged.{polledOf, bankIn, reportsIn, bankRight, banksRight};
 
 impl Polled {
     // Bits above 5 are not judged, and no other bit while bit 0 is clear.
@@ -20,26 +20,52 @@ impl Polled {
     }
 }
 
-// The one word at which the banks are right. The register shows eight, so more configurations than eight ask for no other.
-fn banks_word(configs: u8) -> u32
-    ensures { λ r. ⌜ ((w : ℕ) → w < 4294967296 → banksRight configs w ≡ eqb w r) ⌝ }
+// The bank's part of the register: bank b is bits 4b+3 to 4b, above four for each lower bank.
+fn bank_shows(word: u32, bank: Bank) -> u32
+    ensures { λ r. ⌜ r ≡ bankIn word bank ⌝ }
 {
-    match configs {
-        0 => 0,
-        1 => 0x1,
-        2 => 0x11,
-        3 => 0x111,
-        4 => 0x1111,
-        5 => 0x11111,
-        6 => 0x111111,
-        7 => 0x1111111,
-        _ => 0x11111111,
+    let mut rest = word;
+    for lower in 0..bank.0 {
+        rest = rest / 16;
+    }
+    rest % 16
+}
+
+// Whether one of the first k configurations reports in this bank. `ConfigNumber::bank` alone says in which each does.
+fn reports_in(configs: u8, bank: Bank) -> bool
+    ensures { λ r. ⌜ r ≡ reportsIn configs bank ⌝ }
+{
+    for n in 0..configs {
+        let own = ConfigNumber(n).bank();
+        if own.0 == bank.0 {
+            return true;
+        }
+    }
+    false
+}
+
+// 0001 where a configuration reports, 0000 elsewhere.
+fn bank_right(configs: u8, word: u32, bank: Bank) -> bool
+    ensures { λ r. ⌜ r ≡ bankRight configs word (bank .0) ⌝ }
+{
+    if reports_in(configs, bank) {
+        bank_shows(word, bank) == 1
+    } else {
+        bank_shows(word, bank) == 0
     }
 }
 
-// Banks 0 to k - 1 are 0001, the others 0000.
+// All eight banks that the register shows.
 pub fn banks_right(configs: u8, word: u32) -> bool
     ensures { λ r. ⌜ r ≡ banksRight configs word ⌝ }
 {
-    word == banks_word(configs)
+    let mut b: u8 = 0;
+    while b < 8 {
+        if bank_right(configs, word, Bank(b)) {
+            b += 1;
+        } else {
+            return false;
+        }
+    }
+    true
 }
