@@ -10,10 +10,10 @@ use Rattle.counts.specs.declared.LineNumber.{LineNumber}
 use Rattle.line.specs.declared.NextLine as line
 use Rattle.line.specs.declared.NextLine.the-variants.{End, Took, Stopped}
 use Rattle.line.proofs.Basics.{split}
-use Rattle.image.specs.declared.FileAnswer as image
-use Rattle.image.specs.declared.FileAnswer.the-variants.{Accepted, Refused}
-use Rattle.image.specs.declared.Summary.{Summary}
-use Rattle.image.specs.Says.{isBurn}
+use Rattle.summary.specs.declared.FileAnswer as image
+use Rattle.summary.specs.declared.FileAnswer.the-variants.{Accepted, Refused}
+use Rattle.summary.specs.declared.Summary.{Summary}
+use Rattle.summary.specs.Burn.{isBurn}
 use Rattle.image.specs.Check.{checkOf}
 use Rattle.bus.specs.declared.Request.{Request}
 use Rattle.bus.specs.declared.ReplyForm.{ReplyForm}

@@ -11,7 +11,7 @@ use Rattle.counts.specs.declared.Kind.the-variants.{Legacy, Production}
 use Rattle.line.specs.Digits.{digitVal}
 use Rattle.line.proofs.LineParts.{values-lt}
 use Rattle.line.proofs.Spelling.{spells-values}
-use Rattle.image.specs.declared.Summary.{Summary}
+use Rattle.summary.specs.declared.Summary.{Summary}
 use Rattle.image.specs.Says.{word}
 use Rattle.image.specs.Meets.{dataIn, numbered, Meets}
 use Rattle.image.proofs.LinesAndBytes.{spells-at}

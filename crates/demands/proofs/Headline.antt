@@ -10,9 +10,10 @@ use lib.ListN.{length, getD, drop, length-drop}
 use Rattle.line.specs.Lines.{linesOf}
 use Rattle.line.specs.LineForm.{LineForm}
 use Rattle.line.proofs.Basics.{split}
-use Rattle.image.specs.declared.FileAnswer.{FileAnswer}
-use Rattle.image.specs.declared.FileAnswer.the-variants.{Accepted, Refused}
-use Rattle.image.specs.Check.{answerNumber, checkOf}
+use Rattle.summary.specs.declared.FileAnswer.{FileAnswer}
+use Rattle.summary.specs.declared.FileAnswer.the-variants.{Accepted, Refused}
+use Rattle.image.specs.Check.{checkOf}
+use Rattle.summary.specs.Answers.{answerNumber}
 use Rattle.image.specs.Says.{summaryOf}
 use Rattle.image.specs.Meets.{numbered, Spelled, none, line, Meets}
 use Rattle.image.proofs.LinesAndBytes.{spelled-length}

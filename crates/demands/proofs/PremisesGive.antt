@@ -11,7 +11,7 @@ use Rattle.counts.specs.declared.ConfigId.{ConfigId}
 use Rattle.counts.specs.Counts.{configId}
 use Rattle.line.specs.declared.Line.{Line}
 use Rattle.line.specs.Lines.{linesOf}
-use Rattle.image.specs.declared.FileAnswer.the-variants.{Accepted}
+use Rattle.summary.specs.declared.FileAnswer.the-variants.{Accepted}
 use Rattle.image.specs.Says.{summaryOf}
 use Rattle.image.specs.Check.{checkOf}
 use Rattle.image.specs.Meets.{Meets}

@@ -8,7 +8,7 @@ use native.Mathlib.Omega.{arith}
 use lib.ListN.{getD}
 use Rattle.pec.proofs.Laws.{pec-lt}
 use Rattle.line.specs.declared.Line.{Line}
-use Rattle.image.specs.declared.Summary.{Summary}
+use Rattle.summary.specs.declared.Summary.{Summary}
 use Rattle.bus.specs.declared.ReplyForm.the-variants.{Good}
 use Rattle.bus.specs.Bus.{framed, writeOf, readData, readBlock}
 use Rattle.bus.specs.ReplyForm.{formOf}

@@ -7,7 +7,7 @@ use Prim.Native.Nat.{ℕ, _+_}
 use lib.Dec.{eqb}
 use Rattle.counts.specs.Counts.{configNumber}
 use Rattle.line.specs.declared.Line.{Line}
-use Rattle.image.specs.declared.Summary.{Summary}
+use Rattle.summary.specs.declared.Summary.{Summary}
 use Rattle.bus.specs.Bus.{writeOf, wordBytes, pointTo, readData, readBlock}
 use Rattle.guide.specs.declared.Verdict.the-variants.{Banks, Mismatch}
 use Rattle.guide.specs.Plan.{Plan, done, fileLine}

@@ -9,7 +9,7 @@ use lib.ListN.{length}
 use borrow.Author.Tests.{le-leb}
 use Rattle.counts.specs.Counts.{firstLine}
 use Rattle.line.specs.declared.Line.{Line}
-use Rattle.image.specs.declared.Summary.{Summary}
+use Rattle.summary.specs.declared.Summary.{Summary}
 use Rattle.bus.specs.Bus.{framed, writeOf}
 use Rattle.guide.specs.Plan.{Reply, Asked, Plan, ask, done, requests, verdict}
 use Rattle.guide.specs.Guide.{guide}

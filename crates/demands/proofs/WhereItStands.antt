@@ -6,7 +6,7 @@ use mathlib.Core.Bool.{true}
 use Prim.Native.Nat.{ℕ, suc, _+_, _*_, _≤_, _<_}
 use lib.ListN.{length}
 use Rattle.line.specs.declared.Line.{Line}
-use Rattle.image.specs.declared.Summary.{Summary}
+use Rattle.summary.specs.declared.Summary.{Summary}
 use Rattle.image.proofs.Holds.{Holds, BurnLast}
 use Rattle.bus.specs.declared.Request.{Request}
 use Rattle.bus.specs.Bus.{noRequest}

@@ -7,7 +7,8 @@ use Prim.Native.Nat.{ℕ, _+_, _*_, _≤_, _<_}
 use lib.Dec.{leb}
 use lib.ListN.{length, getD}
 use Rattle.image.specs.Says.{summaryOf}
-use Rattle.image.specs.Check.{answerNumber, checkOf}
+use Rattle.image.specs.Check.{checkOf}
+use Rattle.summary.specs.Answers.{answerNumber}
 use Rattle.bus.specs.declared.Request.{Request}
 use Rattle.bus.specs.Bus.{noRequest}
 use Rattle.guide.specs.declared.Verdict.{Verdict}

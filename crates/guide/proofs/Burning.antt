@@ -8,7 +8,7 @@ use native.Mathlib.Omega.{arith}
 use lib.ListN.{length}
 use borrow.Author.Tests.{eq-eqb, ne-eqb}
 use Rattle.line.specs.declared.Line.{Line}
-use Rattle.image.specs.declared.Summary.{Summary}
+use Rattle.summary.specs.declared.Summary.{Summary}
 use Rattle.bus.specs.declared.Request.{Request}
 use Rattle.bus.specs.declared.ReplyForm.{ReplyForm}
 use Rattle.bus.specs.declared.ReplyForm.the-variants.{Unanswered, Misshapen, Miscoded, Good}

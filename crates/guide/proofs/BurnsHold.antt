@@ -7,7 +7,7 @@ use Prim.Native.Nat.{ℕ, _+_, _≤_}
 use native.Mathlib.Omega.{arith}
 use lib.ListN.{length}
 use Rattle.line.specs.declared.Line.{Line}
-use Rattle.image.specs.declared.Summary.{Summary}
+use Rattle.summary.specs.declared.Summary.{Summary}
 use Rattle.image.specs.Says.{summaryOf}
 use Rattle.guide.specs.Plan.{Reply, Asked, Plan, requests}
 use Rattle.guide.specs.Guide.{lines, guide, writeLinesOf, guideFor}

@@ -11,7 +11,7 @@ use Rattle.counts.specs.declared.Kind.the-variants.{Legacy, Production}
 use Rattle.counts.specs.declared.KindFound.{KindFound}
 use Rattle.counts.specs.declared.KindFound.the-variants.{Is, Unknown}
 use Rattle.line.proofs.Basics.{split}
-use Rattle.image.specs.declared.Summary.{Summary}
+use Rattle.summary.specs.declared.Summary.{Summary}
 use Rattle.guide.specs.declared.Verdict.{Verdict}
 use Rattle.guide.specs.declared.Verdict.the-variants.{Counter, Identity, Flag, Old, OtherKind, Places}
 use Rattle.guide.specs.declared.Fit.the-variants.{Matched, Fails}

@@ -9,7 +9,7 @@ use lib.ListN.{length}
 use borrow.Author.Tests.{eq-eqb}
 use Rattle.counts.specs.Counts.{configNumber}
 use Rattle.line.specs.declared.Line.{Line}
-use Rattle.image.specs.declared.Summary.{Summary}
+use Rattle.summary.specs.declared.Summary.{Summary}
 use Rattle.bus.specs.Bus.{pointTo, readData}
 use Rattle.guide.specs.declared.Verdict.the-variants.{Done, Banks, Mismatch}
 use Rattle.guide.specs.Judged.{polledOf, banksRight}

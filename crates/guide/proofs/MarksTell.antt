@@ -13,7 +13,7 @@ use Rattle.line.specs.Lines.{linesOf}
 use Rattle.line.specs.Digits.{digitVal, valuesOf}
 use Rattle.line.specs.Reading.{lineOf}
 use Rattle.line.proofs.Basics.{split}
-use Rattle.image.specs.declared.Summary.{Summary}
+use Rattle.summary.specs.declared.Summary.{Summary}
 use Rattle.image.specs.Says.{summaryOf}
 use Rattle.image.specs.Meets.{BurnBytes}
 use Rattle.bus.specs.declared.Request.{Request}

@@ -7,8 +7,9 @@ use native.Mathlib.Omega.{arith}
 use lib.ListN.{length}
 use Rattle.line.specs.Lines.{linesOf}
 use Rattle.line.proofs.Spelling.{spells-values}
-use Rattle.image.specs.declared.FileAnswer.the-variants.{Accepted}
-use Rattle.image.specs.Check.{answerNumber, checkOf}
+use Rattle.summary.specs.declared.FileAnswer.the-variants.{Accepted}
+use Rattle.image.specs.Check.{checkOf}
+use Rattle.summary.specs.Answers.{answerNumber}
 use Rattle.image.specs.Meets.{numbered, Meets}
 use Rattle.image.proofs.LinesAndBytes.{spelled-length, spells-at}
 use Rattle.image.proofs.AcceptedExactly.{accepted-exactly}

@@ -6,7 +6,7 @@ use mathlib.Core.Bool.{Bool, true, false}
 use mathlib.Core.List.{List, [], _∷_, _++_}
 use Prim.Native.Nat.{ℕ, _/_, _≤_, _<_}
 use Rattle.counts.specs.declared.Kind.the-variants.{Legacy, Production}
-use Rattle.image.specs.declared.Summary.{Summary}
+use Rattle.summary.specs.declared.Summary.{Summary}
 use Rattle.bus.specs.declared.Request.{Request}
 use Rattle.bus.specs.declared.ReplyForm.the-variants.{Good}
 use Rattle.bus.specs.Bus.{writeOf, wordBytes, pointTo, readData, readBlock}

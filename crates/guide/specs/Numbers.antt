@@ -3,7 +3,7 @@ use Prim.Native.Nat.{ℕ}
 use Rattle.counts.specs.declared.LineNumber.{LineNumber}
 use Rattle.counts.specs.declared.ConfigNumber.{ConfigNumber}
 use Rattle.counts.specs.Counts.{lineNumber, configNumber}
-use Rattle.image.specs.Check.{refusalNumber, refusalLine}
+use Rattle.summary.specs.Answers.{refusalNumber, refusalLine}
 use Rattle.guide.specs.declared.Verdict.{Verdict}
 use Rattle.guide.specs.declared.Verdict.the-variants.{Done, Setting, File, Nack, Shape, Pec, Counter, Identity, Flag, Old, OtherKind, Places, Program, Banks, Mismatch}
 

@@ -11,7 +11,7 @@ use Rattle.counts.specs.Counts.{configNumber}
 use Rattle.line.specs.declared.Line.{Line}
 use Rattle.line.specs.Lines.{linesOf}
 use Rattle.line.specs.Digits.{digitVal, valuesOf}
-use Rattle.image.specs.declared.Summary.{Summary}
+use Rattle.summary.specs.declared.Summary.{Summary}
 use Rattle.image.specs.Says.{summaryOf}
 use Rattle.bus.specs.declared.ReplyForm.the-variants.{Good}
 use Rattle.bus.specs.Bus.{eight, writeOf, pointTo, readData}

@@ -7,7 +7,7 @@ mod words;
 use counts::ConfigNumber;
 pub use fits::kind_wanted;
 pub use found::banks_right;
-use image::Refusal;
+use summary::Refusal;
 pub use words::cleared;
 pub use words::line_request;
 

@@ -6,7 +6,7 @@ use bus::Bus;
 use bus::Request;
 use counts::ConfigId;
 use counts::Kind;
-use image::Summary;
+use summary::Summary;
 ghost use mathlib.Core.Path.{_≡_};
 ghost use Rattle.host.specs.Replies.{silent, took, wordReply, blockReply, valueOf, readReply, replyOf};
 

@@ -1,13 +1,13 @@
 // A host's loop against a simulated regulator, for the file on standard input: one run that ends well, and two that do not.
 mod device;
 
-use image::Summary;
 use libc::STDIN_FILENO;
 use libc::STDOUT_FILENO;
 use session::Answer;
 use session::Report;
 use session::Session;
 use session::Settings;
+use summary::Summary;
 
 // A simulated regulator. It judges nothing, and answers in form while it lasts (specs/Statements.antt).
 struct Regulator {

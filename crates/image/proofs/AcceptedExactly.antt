@@ -12,13 +12,14 @@ use Rattle.line.specs.declared.Fault.{Fault}
 use Rattle.line.specs.declared.Fault.the-variants.{Char, Pairs, Length, Crc, Form}
 use Rattle.line.specs.Lines.{linesOf}
 use Rattle.line.specs.Reading.{faultNumber}
-use Rattle.image.specs.declared.Refusal.{Refusal}
-use Rattle.image.specs.declared.Refusal.the-variants.{Size, Line, Count, Revision, Device, Burn, Spot, Beyond, Same}
-use Rattle.image.specs.declared.FileAnswer.{FileAnswer}
-use Rattle.image.specs.declared.FileAnswer.the-variants.{Accepted, Refused}
+use Rattle.summary.specs.declared.Refusal.{Refusal}
+use Rattle.summary.specs.declared.Refusal.the-variants.{Size, Line, Count, Revision, Device, Burn, Spot, Beyond, Same}
+use Rattle.summary.specs.declared.FileAnswer.{FileAnswer}
+use Rattle.summary.specs.declared.FileAnswer.the-variants.{Accepted, Refused}
 use Rattle.image.specs.Says.{kindIn, revisionSays, fileKind, fileConfigs}
 use Rattle.image.specs.Tests.{isUnknown, knownDevice, tooLong, tooFew, otherRevision, otherDevice, fitsNone}
-use Rattle.image.specs.Check.{refusalNumber, answerNumber, checkOf}
+use Rattle.image.specs.Check.{checkOf}
+use Rattle.summary.specs.Answers.{refusalNumber, answerNumber}
 use Rattle.image.specs.Meets.{dataIn, numbered, Meets, AcceptedExactly}
 use Rattle.image.proofs.Counting.{kind-has, count-is, inside}
 use Rattle.image.proofs.TestsPass.{Passed, passed, accepts, answer-is}

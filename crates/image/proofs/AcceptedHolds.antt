@@ -11,7 +11,7 @@ use Rattle.line.specs.declared.Line.{Line}
 use Rattle.line.specs.Lines.{linesOf}
 use Rattle.image.specs.declared.Told.{Told}
 use Rattle.image.specs.declared.Told.the-variants.{Whole, Bad}
-use Rattle.image.specs.declared.FileAnswer.the-variants.{Accepted}
+use Rattle.summary.specs.declared.FileAnswer.the-variants.{Accepted}
 use Rattle.image.specs.Says.{idOf, fileKind, fileConfigs, idLine, summaryOf}
 use Rattle.image.specs.Tests.{tooFew, fitsNone}
 use Rattle.image.specs.Check.{firstRefusal, checkOf}

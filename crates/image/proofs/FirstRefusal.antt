@@ -12,9 +12,9 @@ use Rattle.line.specs.declared.Line.{Line}
 use Rattle.line.specs.declared.LineReading.{LineReading}
 use Rattle.line.specs.declared.LineReading.the-variants as reading
 use Rattle.line.specs.Reading.{readLine}
-use Rattle.image.specs.declared.Refusal.{Refusal}
-use Rattle.image.specs.declared.FileAnswer.{FileAnswer}
-use Rattle.image.specs.declared.FileAnswer.the-variants.{Accepted, Refused}
+use Rattle.summary.specs.declared.Refusal.{Refusal}
+use Rattle.summary.specs.declared.FileAnswer.{FileAnswer}
+use Rattle.summary.specs.declared.FileAnswer.the-variants.{Accepted, Refused}
 use Rattle.image.specs.Check.{refusedIf, firstRefusal, lineAnswer, lineAnswers}
 
 pub refused : {A : Type 0} (r : Refusal) → Refused r ≡ Accepted → A

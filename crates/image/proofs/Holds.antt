@@ -8,8 +8,8 @@ use Rattle.counts.specs.Counts.{lineNumber, configId, lineCount}
 use Rattle.line.specs.declared.Line.{Line}
 use Rattle.line.specs.declared.NextLine.the-variants.{End, Took}
 use Rattle.line.specs.Reading.{nextLine}
-use Rattle.image.specs.declared.Summary.{Summary}
-use Rattle.image.specs.Says.{isBurn}
+use Rattle.summary.specs.declared.Summary.{Summary}
+use Rattle.summary.specs.Burn.{isBurn}
 
 -- from this place, where line n starts, to its end the text holds these lines
 unfoldable pub Holds : List ℕ → ℕ → ℕ → List Line → Type 0

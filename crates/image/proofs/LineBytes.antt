@@ -14,7 +14,8 @@ use Rattle.line.proofs.Basics.{and-true}
 use Rattle.line.proofs.LineParts.{slice-get}
 use Rattle.line.proofs.Rows.{row-count, row-by}
 use Rattle.line.proofs.GoodExactly.{form-length}
-use Rattle.image.specs.Says.{word, identityOf, idOf, crcOf, isBurn}
+use Rattle.image.specs.Says.{word, identityOf, idOf, crcOf}
+use Rattle.summary.specs.Burn.{isBurn}
 use Rattle.image.specs.Tests.{isIn, knownDevice}
 use Rattle.image.specs.Parts.{parts}
 use Rattle.image.specs.Meets.{commandIn, dataIn, Accepts29, BurnBytes}

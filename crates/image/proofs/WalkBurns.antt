@@ -8,7 +8,8 @@ use lib.ListN.{length, getD, drop}
 use Rattle.line.specs.declared.Line.{Line}
 use Rattle.image.specs.declared.Facts.{Facts}
 use Rattle.image.specs.declared.Told.the-variants.{Whole}
-use Rattle.image.specs.Says.{isBurn, lineNo}
+use Rattle.image.specs.Says.{lineNo}
+use Rattle.summary.specs.Burn.{isBurn}
 use Rattle.image.specs.Tests.{someBelow, burnAt, burnAmiss}
 use Rattle.image.specs.Private.Walk.{noLine, start, factsWith, factsFrom}
 use Rattle.image.specs.Private.Cascade.{burnAmissIn}

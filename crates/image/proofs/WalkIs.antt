@@ -16,10 +16,10 @@ use Rattle.line.specs.Lines.{linesOf}
 use Rattle.image.specs.declared.Facts.{Facts}
 use Rattle.image.specs.declared.Told.{Told}
 use Rattle.image.specs.declared.Told.the-variants.{Whole, Bad}
-use Rattle.image.specs.declared.Refusal.{Refusal}
-use Rattle.image.specs.declared.Refusal.the-variants.{Size, Count, Revision, Device, Burn, Spot, Beyond, Same}
-use Rattle.image.specs.declared.FileAnswer.{FileAnswer}
-use Rattle.image.specs.declared.Checked.{Checked}
+use Rattle.summary.specs.declared.Refusal.{Refusal}
+use Rattle.summary.specs.declared.Refusal.the-variants.{Size, Count, Revision, Device, Burn, Spot, Beyond, Same}
+use Rattle.summary.specs.declared.FileAnswer.{FileAnswer}
+use Rattle.summary.specs.declared.Checked.{Checked}
 use Rattle.image.specs.Says.{kindIn, lineNo, revisionSays, fileKind, fileConfigs}
 use Rattle.image.specs.Tests.{knownDevice, isUnknown, tooLong, tooFew, otherRevision, otherDevice, fitsNone, burnAmiss, beyond, otherSpot, sameIds}
 use Rattle.image.specs.Check.{refusedIf, firstRefusal, lineAnswers, wholeAnswers, answerOf, checkedAs, checkOf}

@@ -14,8 +14,8 @@ use Rattle.line.specs.declared.Line.{Line}
 use Rattle.line.specs.Lines.{linesOf, placeOf}
 use Rattle.image.specs.declared.Facts.{Facts}
 use Rattle.image.specs.declared.Told.the-variants.{Whole}
-use Rattle.image.specs.declared.FileAnswer.the-variants.{Accepted}
-use Rattle.image.specs.declared.Checked.{Checked}
+use Rattle.summary.specs.declared.FileAnswer.the-variants.{Accepted}
+use Rattle.summary.specs.declared.Checked.{Checked}
 use Rattle.image.specs.Says.{identityOf, idOf, crcOf, lineNo, fileKind, fileConfigs, idLine, configCrcLine, eightOf, summaryOf}
 use Rattle.image.specs.Tests.{burnAmiss, beyond, otherSpot, sameIds}
 use Rattle.image.specs.Check.{checkedAs}

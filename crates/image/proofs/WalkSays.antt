@@ -18,8 +18,8 @@ use Rattle.line.specs.Reading.{lineOf, badPairs, lengthRight, crcRight, formRig
 use Rattle.image.specs.declared.Facts.{Facts}
 use Rattle.image.specs.declared.Told.{Told}
 use Rattle.image.specs.declared.Told.the-variants.{Whole, Bad}
-use Rattle.image.specs.declared.FileAnswer.{FileAnswer}
-use Rattle.image.specs.declared.FileAnswer.the-variants as answer
+use Rattle.summary.specs.declared.FileAnswer.{FileAnswer}
+use Rattle.summary.specs.declared.FileAnswer.the-variants as answer
 use Rattle.image.specs.Check.{firstRefusal, lineAnswer, lineAnswers}
 use Rattle.image.specs.Private.Walk.{noLine, factsWith, factsBy, factsFrom}
 

@@ -21,7 +21,7 @@ use Rattle.line.proofs.Cuts.{lineLen, lines-at, next-within, next-after}
 use Rattle.image.specs.declared.Facts.{Facts}
 use Rattle.image.specs.declared.Told.{Told}
 use Rattle.image.specs.declared.Told.the-variants.{Whole, Bad}
-use Rattle.image.specs.declared.Refusal.the-variants as refusal
+use Rattle.summary.specs.declared.Refusal.the-variants as refusal
 use Rattle.image.specs.Private.Walk.{factsWith, factsBy, factsFrom}
 
 -- the text of the line at a place

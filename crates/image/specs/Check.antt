@@ -8,47 +8,15 @@ use Rattle.counts.specs.Counts.{lineNumber}
 use Rattle.line.specs.declared.LineReading.{LineReading}
 use Rattle.line.specs.declared.LineReading.the-variants as reading
 use Rattle.line.specs.Lines.{linesOf}
-use Rattle.line.specs.Reading.{faultNumber, readLine}
-use Rattle.image.specs.declared.Refusal.{Refusal}
-use Rattle.image.specs.declared.Refusal.the-variants.{Size, Line, Count, Revision, Device, Burn, Spot, Beyond, Same}
-use Rattle.image.specs.declared.FileAnswer.{FileAnswer}
-use Rattle.image.specs.declared.FileAnswer.the-variants.{Accepted, Refused}
-use Rattle.image.specs.declared.Checked.{Checked}
-use Rattle.image.specs.Says.{summaryOf, noSummary}
+use Rattle.line.specs.Reading.{readLine}
+use Rattle.summary.specs.declared.Refusal.{Refusal}
+use Rattle.summary.specs.declared.Refusal.the-variants.{Size, Line, Count, Revision, Device, Burn, Spot, Beyond, Same}
+use Rattle.summary.specs.declared.FileAnswer.{FileAnswer}
+use Rattle.summary.specs.declared.FileAnswer.the-variants.{Accepted, Refused}
+use Rattle.summary.specs.declared.Checked.{Checked}
+use Rattle.image.specs.Says.{summaryOf}
+use Rattle.summary.specs.Answers.{noSummary}
 use Rattle.image.specs.Tests.{tooLong, tooFew, otherRevision, otherDevice, fitsNone, burnAmiss, beyond, otherSpot, sameIds}
-
--- the document's numbers
-abbrev pub refusalNumber : Refusal → ℕ
-refusalNumber Size = 1
-refusalNumber (Line n fault) = faultNumber fault
-refusalNumber Count = 7
-refusalNumber Revision = 8
-refusalNumber Device = 9
-refusalNumber Burn = 10
-refusalNumber Spot = 11
-refusalNumber Beyond = 12
-refusalNumber Same = 13
-
--- the line is 0 for 1 and 7 to 13
-abbrev pub refusalLine : Refusal → LineNumber
-refusalLine Size = lineNumber 0
-refusalLine (Line n fault) = n
-refusalLine Count = lineNumber 0
-refusalLine Revision = lineNumber 0
-refusalLine Device = lineNumber 0
-refusalLine Burn = lineNumber 0
-refusalLine Spot = lineNumber 0
-refusalLine Beyond = lineNumber 0
-refusalLine Same = lineNumber 0
-
--- 0 if accepted
-abbrev pub answerNumber : FileAnswer → ℕ
-answerNumber Accepted = 0
-answerNumber (Refused r) = refusalNumber r
-
-abbrev pub answerLine : FileAnswer → LineNumber
-answerLine Accepted = lineNumber 0
-answerLine (Refused r) = refusalLine r
 
 -- ---- the order
 

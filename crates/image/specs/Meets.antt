@@ -10,7 +10,8 @@ use Rattle.counts.specs.Counts.{configId}
 use Rattle.line.specs.Lines.{linesOf}
 use Rattle.line.specs.LineForm.{Spells, LineForm}
 use Rattle.image.specs.Says.{word}
-use Rattle.image.specs.Check.{answerNumber, checkOf}
+use Rattle.image.specs.Check.{checkOf}
+use Rattle.summary.specs.Answers.{answerNumber}
 use Rattle.image.specs.Parts.{parts}
 
 -- the revision's first byte, the kind, its step s and its CRC place c

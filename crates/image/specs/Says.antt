@@ -1,10 +1,10 @@
 -- What the lines of a file say, one by one (document 01, "The whole file"): by their numbers, counted from 1, and by the bytes
 -- that their digits spell. Assumes nothing.
 use Prim.Native.Nat.{ℕ, _+_, _-_, _*_, _%_}
-use mathlib.Core.Bool.{Bool, false, cond}
+use mathlib.Core.Bool.{Bool, cond}
 use mathlib.Core.List.{List, [], _∷_}
 use lib.Dec.{eqb, ltb}
-use lib.ListN.{length, getD, replicate}
+use lib.ListN.{length, getD}
 use Rattle.counts.specs.declared.ConfigId.{ConfigId}
 use Rattle.counts.specs.declared.LineNumber.{LineNumber}
 use Rattle.counts.specs.declared.Kind.{Kind}
@@ -16,7 +16,7 @@ use Rattle.line.specs.declared.Line.{Line}
 use Rattle.line.specs.Lines.{linesOf, placeOf}
 use Rattle.line.specs.Digits.{digitVal, valuesOf}
 use Rattle.line.specs.Reading.{lineOf}
-use Rattle.image.specs.declared.Summary.{Summary}
+use Rattle.summary.specs.declared.Summary.{Summary}
 
 -- four bytes as a number, the highest first
 unfoldable pub word : ℕ → ℕ → ℕ → ℕ → ℕ
@@ -33,10 +33,6 @@ idOf l = configId (l .d0 % 16)
 -- the configuration CRC: the four data bytes, lowest first
 unfoldable pub crcOf : Line → ℕ
 crcOf l = word (l .d3) (l .d2) (l .d1) (l .d0)
-
--- the burn: E7 with 08 00
-unfoldable pub isBurn : Line → Bool
-isBurn l = cond (eqb (l .command) 0xE7) (cond (eqb (l .d0) 0x08) (eqb (l .d1) 0x00) false) false
 
 unfoldable pub isC6 : Line → Bool
 isC6 l = eqb (l .command) 0xC6
@@ -91,6 +87,3 @@ summaryOf s =
       ids = eightOf (fileConfigs ls) (λ N. idOf (idLine ls N)) (configId 0);
       crcs = eightOf (fileConfigs ls) (λ N. crcOf (configCrcLine ls N)) 0;
     }
-
-unfoldable pub noSummary : Summary
-noSummary = record { kind = Legacy; identity = 0; lines = 0; configs = 0; line5 = 0; ids = replicate 8 (configId 0); crcs = replicate 8 0 }

@@ -8,7 +8,8 @@ use Rattle.counts.specs.declared.KindFound.{KindFound}
 use Rattle.counts.specs.declared.KindFound.the-variants.{Is, Unknown}
 use Rattle.counts.specs.Counts.{lineNumber, configNumber, identifierLine, crcLine}
 use Rattle.line.specs.declared.Line.{Line}
-use Rattle.image.specs.Says.{idOf, isBurn, isC6, lineNo, revisionSays, fileKind, fileConfigs, idLine, configCrcLine}
+use Rattle.image.specs.Says.{idOf, isC6, lineNo, revisionSays, fileKind, fileConfigs, idLine, configCrcLine}
+use Rattle.summary.specs.Burn.{isBurn}
 use Rattle.image.specs.Parts.{parts}
 
 -- a number under k for which the test is true

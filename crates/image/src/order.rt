@@ -1,10 +1,6 @@
 // The tests of the whole file in the order of document 01, "Numbers for a file".
-use crate::Checked;
 use crate::Facts;
-use crate::FileAnswer;
-use crate::Refusal;
 use crate::Spots;
-use crate::Summary;
 use crate::Told;
 use crate::config_lines::line_at;
 use crate::config_lines::same_in;
@@ -15,6 +11,10 @@ use counts::ConfigNumber;
 use counts::Kind;
 use counts::KindFound;
 use counts::LineNumber;
+use summary::Checked;
+use summary::FileAnswer;
+use summary::Refusal;
+use summary::Summary;
 ghost use mathlib.Core.Path.{_≡_};
 ghost use Prim.Native.Nat.{_≤_};
 ghost use Rattle.pec.specs.Lent.{IsTable};

@@ -1,11 +1,11 @@
 // The pass over the lines: each good line is taken out, and the first faulty one's refusal is handed on.
 use crate::Facts;
-use crate::Refusal;
 use crate::Told;
-use crate::is_burn;
 use counts::LineNumber;
 use line::Line;
 use line::NextLine;
+use summary::Refusal;
+use summary::is_burn;
 ghost use mathlib.Core.Path.{_≡_};
 ghost use mathlib.Core.Bool.{cond, true};
 ghost use lib.ListN.{length};

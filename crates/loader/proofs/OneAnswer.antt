@@ -4,7 +4,8 @@ use mathlib.Core.Path.{_≡_}
 use mathlib.Core.List.{List}
 use Prim.Native.Nat.{ℕ}
 use Rattle.pec.specs.Pec.{pec}
-use Rattle.image.specs.Check.{answerNumber, checkOf}
+use Rattle.image.specs.Check.{checkOf}
+use Rattle.summary.specs.Answers.{answerNumber}
 use Rattle.promise.specs.One.{One}
 use Rattle.promise.proofs.Equal.{one-answer}
 

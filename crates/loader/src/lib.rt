@@ -1,7 +1,8 @@
 // The entries for the station's C loader, declared in include/tehilgam.h. C passes a slice as a pointer and then a length.
 ghost use mathlib.Core.Path.{_≡_};
 ghost use Rattle.pec.specs.Pec.{pec};
-ghost use Rattle.image.specs.Check.{answerNumber, checkOf};
+ghost use Rattle.image.specs.Check.{checkOf};
+ghost use Rattle.summary.specs.Answers.{answerNumber};
 
 // The PEC of some bytes.
 #[no_mangle]

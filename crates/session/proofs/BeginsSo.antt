@@ -4,9 +4,9 @@ use mathlib.Core.Path.{_≡_, refl, sym, ap}
 use mathlib.Core.Bool.{true, false}
 use mathlib.Core.List.{List}
 use Rattle.line.proofs.Basics.{split}
-use Rattle.image.specs.declared.Summary.{Summary}
-use Rattle.image.specs.declared.FileAnswer.{FileAnswer}
-use Rattle.image.specs.declared.FileAnswer.the-variants.{Accepted, Refused}
+use Rattle.summary.specs.declared.Summary.{Summary}
+use Rattle.summary.specs.declared.FileAnswer.{FileAnswer}
+use Rattle.summary.specs.declared.FileAnswer.the-variants.{Accepted, Refused}
 use Rattle.image.specs.Check.{checkOf}
 use Rattle.bus.specs.declared.Request.{Request}
 use Rattle.bus.specs.Bus.{pointTo}

@@ -14,7 +14,7 @@ use Rattle.line.specs.declared.Line.{Line}
 use Rattle.line.specs.declared.NextLine as line
 use Rattle.line.specs.declared.NextLine.the-variants.{End, Took, Stopped}
 use Rattle.line.specs.Reading.{nextLine}
-use Rattle.image.specs.Says.{isBurn}
+use Rattle.summary.specs.Burn.{isBurn}
 use Rattle.bus.specs.Bus.{pointTo}
 use Rattle.bus.specs.declared.Request.{Request}
 use Rattle.guide.specs.declared.Verdict.{Verdict}

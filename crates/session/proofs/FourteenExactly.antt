@@ -9,12 +9,13 @@ use Rattle.line.specs.declared.Fault.{Fault}
 use Rattle.line.specs.declared.Fault.the-variants.{Char, Pairs, Length, Crc, Form}
 use Rattle.line.specs.Reading.{faultNumber}
 use Rattle.line.proofs.Basics.{split}
-use Rattle.image.specs.declared.Summary.{Summary}
-use Rattle.image.specs.declared.Refusal.{Refusal}
-use Rattle.image.specs.declared.Refusal.the-variants.{Size, Line, Count, Revision, Device, Burn, Spot, Beyond, Same}
-use Rattle.image.specs.declared.FileAnswer.{FileAnswer}
-use Rattle.image.specs.declared.FileAnswer.the-variants.{Accepted, Refused}
-use Rattle.image.specs.Check.{refusalNumber, checkOf}
+use Rattle.summary.specs.declared.Summary.{Summary}
+use Rattle.summary.specs.declared.Refusal.{Refusal}
+use Rattle.summary.specs.declared.Refusal.the-variants.{Size, Line, Count, Revision, Device, Burn, Spot, Beyond, Same}
+use Rattle.summary.specs.declared.FileAnswer.{FileAnswer}
+use Rattle.summary.specs.declared.FileAnswer.the-variants.{Accepted, Refused}
+use Rattle.image.specs.Check.{checkOf}
+use Rattle.summary.specs.Answers.{refusalNumber}
 use Rattle.session.specs.declared.Settings.{Settings}
 use Rattle.session.specs.declared.Report.the-variants.{Waiting, Is}
 use Rattle.session.specs.Reports.{reportOf}

@@ -8,8 +8,8 @@ use borrow.Author.Tests.{ltb-true, leb-true, eqb-true}
 use Rattle.counts.specs.Counts.{lineCount}
 use Rattle.counts.specs.declared.Kind.{Kind}
 use Rattle.counts.specs.declared.Kind.the-variants.{Legacy, Production}
-use Rattle.image.specs.declared.Checked.{Checked}
-use Rattle.image.specs.declared.FileAnswer.{FileAnswer}
+use Rattle.summary.specs.declared.Checked.{Checked}
+use Rattle.summary.specs.declared.FileAnswer.{FileAnswer}
 use Rattle.image.specs.Check.{checkOf}
 use Rattle.bus.specs.ReplyForm.{formOf}
 use Rattle.guide.specs.declared.Verdict.{Verdict}

@@ -9,7 +9,7 @@ use Rattle.line.specs.declared.Line.{Line}
 use Rattle.line.specs.declared.NextLine as line
 use Rattle.line.specs.declared.NextLine.the-variants.{End, Took, Stopped}
 use Rattle.line.specs.Reading.{nextLine}
-use Rattle.image.specs.Says.{isBurn}
+use Rattle.summary.specs.Burn.{isBurn}
 use Rattle.guide.proofs.JudgedExactly.{judged-exactly}
 use Rattle.session.specs.declared.Session.{Session}
 use Rattle.session.specs.declared.Awaited.{Awaited}

@@ -4,11 +4,11 @@ use mathlib.Core.List.{List}
 use mathlib.Core.Bool.{false, cond}
 use Rattle.counts.specs.declared.LineNumber.{LineNumber}
 use Rattle.counts.specs.Counts.{lineNumber, configNumber, firstLine}
-use Rattle.image.specs.declared.Summary.{Summary}
-use Rattle.image.specs.declared.Checked.{Checked}
-use Rattle.image.specs.declared.FileAnswer.{FileAnswer}
-use Rattle.image.specs.declared.FileAnswer.the-variants.{Accepted, Refused}
-use Rattle.image.specs.Says.{noSummary}
+use Rattle.summary.specs.declared.Summary.{Summary}
+use Rattle.summary.specs.declared.Checked.{Checked}
+use Rattle.summary.specs.declared.FileAnswer.{FileAnswer}
+use Rattle.summary.specs.declared.FileAnswer.the-variants.{Accepted, Refused}
+use Rattle.summary.specs.Answers.{noSummary}
 use Rattle.image.specs.Check.{checkOf}
 use Rattle.bus.specs.Bus.{noRequest, pointTo}
 use Rattle.guide.specs.declared.Verdict.{Verdict}

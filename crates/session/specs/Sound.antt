@@ -7,7 +7,7 @@ use lib.Dec.{eqb, ltb, leb}
 use lib.ListN.{take}
 use Rattle.counts.specs.Counts.{lineCount}
 use Rattle.counts.specs.declared.ConfigId.{ConfigId}
-use Rattle.image.specs.declared.Summary.{Summary}
+use Rattle.summary.specs.declared.Summary.{Summary}
 use Rattle.bus.specs.Bus.{reserved}
 use Rattle.session.specs.declared.Settings.{Settings}
 use Rattle.session.specs.declared.Session.{Session}

@@ -11,7 +11,7 @@ use Rattle.counts.specs.Counts.{lineNumber, configNumber, configId, lineCount}
 use Rattle.line.specs.declared.Line.{Line}
 use Rattle.line.specs.declared.NextLine.the-variants.{Took}
 use Rattle.line.specs.Reading.{nextLine}
-use Rattle.image.specs.Says.{isBurn}
+use Rattle.summary.specs.Burn.{isBurn}
 use Rattle.bus.specs.Bus.{noRequest}
 use Rattle.bus.specs.ReplyForm.{formOf}
 use Rattle.bus.specs.declared.ReplyForm.the-variants.{Good}

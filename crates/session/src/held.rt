@@ -3,7 +3,7 @@ use crate::Session;
 use crate::Settings;
 use bus::Bus;
 use counts::ConfigId;
-use image::Summary;
+use summary::Summary;
 ghost use mathlib.Core.Path.{_≡_};
 ghost use Prim.Native.Nat.{_<_};
 ghost use Rattle.session.specs.Sound.{allowedOf, idsTo, fileSound, heldSound, soundOf};

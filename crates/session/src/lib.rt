@@ -11,7 +11,7 @@ use bus::Request;
 use counts::ConfigNumber;
 use counts::LineNumber;
 use guide::Verdict;
-use image::Summary;
+use summary::Summary;
 
 pub struct Settings {
     // Whether step 1 is wanted.

@@ -28,7 +28,7 @@ impl Session {
         requires { ⌜ Ready self ⌝ }
         ensures { λ r. ⌜ r ≡ tookOf self line next number ⌝ }
     {
-        if image::is_burn(line) {
+        if summary::is_burn(line) {
             if number.0 == self.file.lines {
                 self.due_put(line, next, number, true)
             } else {

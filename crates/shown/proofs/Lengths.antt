@@ -7,9 +7,9 @@ use Rattle.counts.specs.declared.ConfigId.{ConfigId}
 use Rattle.counts.specs.declared.Kind.{Kind}
 use Rattle.counts.specs.declared.Kind.the-variants.{Legacy, Production}
 use Rattle.counts.specs.Counts.{configId}
-use Rattle.image.specs.declared.Refusal.{Refusal}
-use Rattle.image.specs.declared.Summary.{Summary}
-use Rattle.image.specs.Check.{refusalNumber, refusalLine}
+use Rattle.summary.specs.declared.Refusal.{Refusal}
+use Rattle.summary.specs.declared.Summary.{Summary}
+use Rattle.summary.specs.Answers.{refusalNumber, refusalLine}
 use Rattle.text.specs.Text.{bytesOf}
 use Rattle.text.proofs.Laws.{digits-length, decimal-length}
 use Rattle.shown.specs.Shown.{kindName, rowOf, rowsTo, headOf, acceptedText, refusedText}

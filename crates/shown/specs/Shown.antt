@@ -6,11 +6,12 @@ use Rattle.counts.specs.declared.ConfigId.{ConfigId}
 use Rattle.counts.specs.declared.Kind.{Kind}
 use Rattle.counts.specs.declared.Kind.the-variants.{Legacy, Production}
 use Rattle.counts.specs.Counts.{configId}
-use Rattle.image.specs.declared.Refusal.{Refusal}
-use Rattle.image.specs.declared.FileAnswer.{FileAnswer}
-use Rattle.image.specs.declared.FileAnswer.the-variants.{Accepted, Refused}
-use Rattle.image.specs.declared.Summary.{Summary}
-use Rattle.image.specs.Check.{refusalNumber, refusalLine, checkOf}
+use Rattle.summary.specs.declared.Refusal.{Refusal}
+use Rattle.summary.specs.declared.FileAnswer.{FileAnswer}
+use Rattle.summary.specs.declared.FileAnswer.the-variants.{Accepted, Refused}
+use Rattle.summary.specs.declared.Summary.{Summary}
+use Rattle.image.specs.Check.{checkOf}
+use Rattle.summary.specs.Answers.{refusalNumber, refusalLine}
 use Rattle.text.specs.Text.{bytesOf, space, lineEnd, hex, decimal}
 
 unfoldable pub kindName : Kind → List ℕ

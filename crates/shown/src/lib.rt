@@ -1,9 +1,9 @@
 // What the printing program writes of a file (document 01, "The printing program"), made into a lent buffer.
 use counts::ConfigId;
 use counts::Kind;
-use image::FileAnswer;
-use image::Refusal;
-use image::Summary;
+use summary::FileAnswer;
+use summary::Refusal;
+use summary::Summary;
 use text::put_bytes;
 use text::put_decimal;
 use text::put_hex1;

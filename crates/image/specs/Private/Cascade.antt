@@ -15,11 +15,12 @@ use Rattle.image.specs.declared.Facts.{Facts}
 use Rattle.image.specs.declared.Told.{Told}
 use Rattle.image.specs.declared.Told.the-variants.{Whole, Bad}
 use Rattle.image.specs.declared.Spots.{Spots}
-use Rattle.image.specs.declared.Refusal.{Refusal}
-use Rattle.image.specs.declared.Refusal.the-variants.{Size, Count, Revision, Device, Burn, Spot, Beyond, Same}
-use Rattle.image.specs.declared.FileAnswer.the-variants.{Accepted, Refused}
-use Rattle.image.specs.declared.Checked.{Checked}
-use Rattle.image.specs.Says.{identityOf, noSummary}
+use Rattle.summary.specs.declared.Refusal.{Refusal}
+use Rattle.summary.specs.declared.Refusal.the-variants.{Size, Count, Revision, Device, Burn, Spot, Beyond, Same}
+use Rattle.summary.specs.declared.FileAnswer.the-variants.{Accepted, Refused}
+use Rattle.summary.specs.declared.Checked.{Checked}
+use Rattle.image.specs.Says.{identityOf}
+use Rattle.summary.specs.Answers.{noSummary}
 use Rattle.image.specs.Tests.{knownDevice}
 use Rattle.image.specs.Private.Walk.{start, factsFrom, lineAt, spotsTo, sameIn}
 

@@ -20,8 +20,9 @@ use Rattle.image.specs.declared.Facts.{Facts}
 use Rattle.image.specs.declared.Told.{Told}
 use Rattle.image.specs.declared.Told.the-variants.{Whole, Bad}
 use Rattle.image.specs.declared.Spots.{Spots}
-use Rattle.image.specs.declared.Refusal.the-variants as refusal
-use Rattle.image.specs.Says.{idOf, crcOf, isBurn, isC6}
+use Rattle.summary.specs.declared.Refusal.the-variants as refusal
+use Rattle.image.specs.Says.{idOf, crcOf, isC6}
+use Rattle.summary.specs.Burn.{isBurn}
 use Rattle.image.specs.Tests.{someBelow}
 
 -- ---- the pass over the lines

@@ -1,7 +1,7 @@
 -- The number of the checker's answer. Assumes nothing.
 use mathlib.Core.Path.{_∙_, ap}
-use Rattle.image.specs.declared.Checked.{Checked}
-use Rattle.image.specs.Check.{answerNumber}
+use Rattle.summary.specs.declared.Checked.{Checked}
+use Rattle.summary.specs.Answers.{answerNumber}
 use borrow.Author.Needs.{needs}
 use Rattle.loader.proofs.tehilgam_refusal.Statement.{statement}
 use Rattle.loader.proofs.tehilgam_refusal.Tie as tie

@@ -1,7 +1,7 @@
 -- The checker says which text it is, and an accepted file has at most eight configurations. Assumes nothing.
 use mathlib.Core.Path.{_≡_, sym, ap, _∙_}
-use Rattle.image.specs.declared.Checked.{Checked}
-use Rattle.image.specs.declared.FileAnswer.the-variants.{Accepted}
+use Rattle.summary.specs.declared.Checked.{Checked}
+use Rattle.summary.specs.declared.FileAnswer.the-variants.{Accepted}
 use Rattle.image.specs.Check.{checkOf}
 use Rattle.image.proofs.AcceptedHolds.{sound}
 use Rattle.shown.specs.Shown.{answerText, shown}

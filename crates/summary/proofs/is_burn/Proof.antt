@@ -1,8 +1,8 @@
 -- The same tests in the same order. Assumes nothing.
-use Rattle.image.specs.Says.{isBurn}
+use Rattle.summary.specs.Burn.{isBurn}
 use Rattle.counts.proofs.Tests.{tests}
-use Rattle.image.proofs.is_burn.Statement.{statement}
-use Rattle.image.proofs.is_burn.Tie as tie
+use Rattle.summary.proofs.is_burn.Statement.{statement}
+use Rattle.summary.proofs.is_burn.Tie as tie
 
 returns : tie.Need-returns
 unfolding isBurn

@@ -1,7 +1,7 @@
 -- By the case. Assumes nothing.
 use borrow.Author.Needs.{needs}
-use Rattle.image.proofs.Refusal.line.Statement.{statement}
-use Rattle.image.proofs.Refusal.line.Tie as tie
+use Rattle.summary.proofs.Refusal.line.Statement.{statement}
+use Rattle.summary.proofs.Refusal.line.Tie as tie
 
 returns : tie.Need-returns
 returns c = rw (c .enum-told .given .1)

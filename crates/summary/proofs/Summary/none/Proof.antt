@@ -1,8 +1,8 @@
 -- As it is defined. Assumes nothing.
 use mathlib.Core.Path.{refl}
-use Rattle.image.specs.Says.{noSummary}
-use Rattle.image.proofs.Summary.none.Statement.{statement}
-use Rattle.image.proofs.Summary.none.Tie as tie
+use Rattle.summary.specs.Answers.{noSummary}
+use Rattle.summary.proofs.Summary.none.Statement.{statement}
+use Rattle.summary.proofs.Summary.none.Tie as tie
 
 returns : tie.Need-returns
 unfolding noSummary

@@ -1,13 +1,49 @@
-// The document's numbers and lines of an answer (document 01, "Numbers for a file"), and the summary of a refused file.
-use crate::FileAnswer;
-use crate::Refusal;
-use crate::Summary;
+// What a check hands back (document 01, "Numbers for a file" and "The whole file"): a file's answer with its number and line, and
+// what an accepted file says.
+use bus::Bus;
 use counts::ConfigId;
 use counts::Kind;
 use counts::LineNumber;
+use line::Fault;
+use line::Line;
 ghost use mathlib.Core.Path.{_≡_};
-ghost use Rattle.image.specs.Says.{noSummary};
-ghost use Rattle.image.specs.Check.{refusalNumber, refusalLine, answerNumber, answerLine};
+ghost use Rattle.summary.specs.Answers.{refusalNumber, refusalLine, answerNumber, answerLine, noSummary};
+ghost use Rattle.summary.specs.Burn.{isBurn};
+
+// Numbers 1 to 13 of document 01, "Numbers for a file": the whole file's, and a line's with its fault. Handed on whole.
+pub enum Refusal {
+    Size,
+    Line(LineNumber, Fault),
+    Count,
+    Revision,
+    Device,
+    Burn,
+    Spot,
+    Beyond,
+    Same,
+}
+
+pub enum FileAnswer {
+    Accepted,
+    Refused(Refusal),
+}
+
+// What an accepted file says. `line5` is the place of line 5 in the text.
+pub struct Summary {
+    pub kind: Kind,
+    pub identity: u32,
+    pub lines: u32,
+    pub configs: u8,
+    pub line5: usize,
+    pub ids: [ConfigId; 8],
+    pub crcs: [u32; 8],
+}
+
+// The summary holds arrays, so it stands beside the answer: of zeros where the file is refused.
+pub struct Checked {
+    pub answer: FileAnswer,
+    pub summary: Summary,
+}
 
 impl Refusal {
     // The document's number.
@@ -81,5 +117,16 @@ impl Summary {
             ids: [ConfigId(0); 8],
             crcs: [0; 8],
         }
+    }
+}
+
+// Whether a line is the burn.
+pub fn is_burn(l: Line) -> bool
+    ensures { λ r. ⌜ r ≡ isBurn l ⌝ }
+{
+    if l.command == Bus::ACT {
+        if l.d0 == 8 { l.d1 == 0 } else { false }
+    } else {
+        false
     }
 }
