@@ -3,14 +3,15 @@ use mathlib.Core.Path.{_≡_, refl, ap, _∙_}
 use mathlib.Core.Logic.{inl, inr}
 use mathlib.Core.Bool.{true, false}
 use mathlib.Core.List.{List, [], _∷_}
-use Prim.Native.Nat.{ℕ, _+_, _-_, _≤_}
+use Prim.Native.Nat.{ℕ, _-_, _≤_}
 use native.Mathlib.Omega.{arith}
 use lib.Dec.{eqb}
-use lib.ListN.{length, drop, getD, length-append, length-take}
+use lib.ListN.{length, drop, getD, length-take}
 use borrow.Author.Tests.{eqb-true}
 use Rattle.line.specs.Reading.{lineOf}
 use Rattle.line.specs.LineForm.{Row, identity, revision, third, fourth, two, four, LineForm}
 use Rattle.line.proofs.Basics.{and-true}
+use Rattle.line.proofs.GoodExactly.{form-length}
 use Rattle.image.specs.Meets.{BurnBytes}
 use Rattle.bus.specs.declared.Request.{Request}
 use Rattle.bus.specs.Bus.{eight, framed}
@@ -44,12 +45,9 @@ abbrev writes : List ℕ → ℕ → Request
 writes bs used = record { bytes = bs; used = used; reads = false }
 
 module _ (n : ℕ) (v : List ℕ) (h : 5 ≤ n) (f : LineForm n v) where
-  size : length v ≡ 5 + length (f .content)
-  size = ap length (f .bytes) ∙ simp length-append (omega arith)
-
   used-is : lineRequest (lineOf v) .used ≡ length v - 2
   unfolding lineRequest lineData framed lineOf
-  used-is = simp length-take (omega (arith, size, counted (f .row) h .0))
+  used-is = simp length-take (omega (arith, form-length f, counted (f .row) h .0))
 
   pub line-stands : lineRequest (lineOf v) ≡ asItStands v
   unfolding lineRequest framed
@@ -62,6 +60,6 @@ module _ (n : ℕ) (v : List ℕ) (h : 5 ≤ n) (f : LineForm n v) where
   burn-stands b =
       let e : getD v 3 0 ≡ f .command = ap (λ (x : List ℕ). getD x 3 0) (f .bytes) in
       let c : f .command ≡ 0xE7 = cc (b .command) in
-      let u : length v - 2 ≡ 5 = omega (arith, size, counted (f .row) h .1 c) in
+      let u : length v - 2 ≡ 5 = omega (arith, form-length f, counted (f .row) h .1 c) in
       let s : eight (drop 2 v) ≡ eight burnBytes = same-bytes _ _ (line-spelt n v h f .burn b) in
       ap (λ (bs : List ℕ). writes bs (length v - 2)) s ∙ ap (λ (k : ℕ). writes (eight burnBytes) k) u

@@ -1,6 +1,5 @@
 -- One reply more of those that are whole, and where a reply that is there ends. Assumes nothing.
-use mathlib.Core.Path.{_≡_, refl}
-use mathlib.Core.Bool.{Bool, true, false}
+use mathlib.Core.Path.{_≡_}
 use mathlib.Core.List.{List}
 use Prim.Native.Nat.{ℕ, zero, suc, _+_, _-_, _≤_, _<_}
 use native.Mathlib.Omega.{arith}
@@ -8,7 +7,6 @@ use lib.Dec.{ltb, leb}
 use lib.ListN.{length}
 use borrow.Author.Tests.{ltb-false, leb-false}
 use Rattle.line.proofs.Basics.{split}
-use Rattle.dryrun.specs.declared.Found.{Found}
 use Rattle.dryrun.specs.declared.Found.the-variants.{End, Reply, Part}
 use Rattle.dryrun.specs.Parts.{foundAt, wholeBy, wholeReplies, byte}
 

@@ -1,19 +1,15 @@
 -- What the guide's theorems need of a text, as plain facts about its lines, and what follows at once. Assumes nothing.
 use mathlib.Core.Path.{_≡_, refl, _∙_}
 use mathlib.Core.List.{List, [], _∷_}
-use Prim.Native.Nat.{ℕ, _+_, _-_, _/_, _%_, _≤_, _<_}
+use Prim.Native.Nat.{ℕ, _+_, _-_, _≤_, _<_}
 use native.Mathlib.Omega.{arith}
-use lib.Dec.{eqb, leb}
 use lib.ListN.{length, getD, drop, length-drop}
-use borrow.Author.Tests.{leb-true}
-use Rattle.counts.specs.declared.Kind.{Kind}
-use Rattle.counts.specs.Counts.{stepOf, configsOf}
 use Rattle.line.specs.Lines.{linesOf}
 use Rattle.line.specs.Digits.{digitVal, valuesOf}
 use Rattle.line.specs.LineForm.{LineForm}
-use Rattle.line.proofs.Basics.{split}
 use Rattle.image.specs.Says.{fileConfigs, summaryOf}
 use Rattle.image.specs.Meets.{BurnBytes}
+use Rattle.image.proofs.SpotPlaces.{configs-le}
 use Rattle.guide.specs.Guide.{linesAs, writeLinesOf}
 
 -- the bytes of the line with this number
@@ -43,14 +39,6 @@ module _ (text : List ℕ) (facts : FileFacts text) where
   pub some-line : 1 ≤ length (writeLinesOf text)
   some-line = omega (arith, facts .many, write-lines-length text)
 
--- of every text: at most eight configurations
-configs-few : (kind : Kind) (n : ℕ) → configsOf kind n ≤ 8
-unfolding configsOf
-configs-few kind n =
-    split (eqb (n % stepOf kind) 12)
-    (λ e. split (leb (n / stepOf kind) 8) (λ f. rw (e, f) (leb-true (n / stepOf kind) 8 f)) (λ f. rw (e, f) (omega arith)))
-    (λ e. rw e (omega arith))
-
 pub few-configs : (text : List ℕ) → summaryOf text .configs ≤ 8
 unfolding summaryOf fileConfigs
-few-configs text = configs-few _ _
+few-configs text = configs-le _ _

@@ -1,4 +1,4 @@
--- The firstRefusal fault of a list of answers: there is none exactly where every answer accepts, and where every line reads as good.
+-- The first fault of a list of answers: there is none exactly where every answer accepts, and where every line reads as good.
 -- Assumes nothing.
 use mathlib.Core.Path.{_≡_, refl}
 use mathlib.Core.Bool.{Bool, true, false}

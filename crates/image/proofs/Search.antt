@@ -14,6 +14,10 @@ pub or-false : (a b : Bool) → cond a true b ≡ false → (a ≡ false) × (b 
 or-false true b e = absurd (true≢false e)
 or-false false b e = (refl, e)
 
+pub must-pass : (a b : Bool) → cond a b true ≡ false → (a ≡ true) × (b ≡ false)
+must-pass true b e = (refl, e)
+must-pass false b e = absurd (true≢false e)
+
 pub or-none : (a : Bool) → a ≡ cond a true false
 or-none true = refl
 or-none false = refl

@@ -1,6 +1,6 @@
 -- What the walk's facts say of the lines: how many there are, and where the burn stands. Assumes nothing.
 use mathlib.Core.Path.{_≡_, refl, _∙_}
-use mathlib.Core.Bool.{Bool, true, false, cond, true≢false}
+use mathlib.Core.Bool.{Bool, true, false, cond}
 use mathlib.Core.List.{List, [], _∷_}
 use Prim.Native.Nat.{ℕ, zero, suc, _+_, _-_, _<_}
 use native.Mathlib.Omega.{arith}
@@ -14,7 +14,7 @@ use Rattle.image.specs.Tests.{someBelow, burnAt, burnAmiss}
 use Rattle.image.specs.Private.Walk.{noLine, start, factsWith, factsFrom}
 use Rattle.image.specs.Private.Cascade.{burnAmissIn}
 use Rattle.image.proofs.Holds.{BurnLast}
-use Rattle.image.proofs.Search.{or-none, below-first}
+use Rattle.image.proofs.Search.{or-none, or-false, must-pass, below-first}
 use Rattle.image.proofs.WalkSays.{lineSays, saysOf, says-length, says-at, goes}
 
 -- the facts of some good lines
@@ -69,11 +69,6 @@ burn-amiss (t ∷ ts) h =
     let e : length (t ∷ ts) - 1 ≡ length ls = omega (arith, says-length ts) in
     rw (burn-at (t ∷ ts), e, burnt-is start l ls, early-is start l ls)
 
--- ---- the burn is the last line, and no other is it
-or-false : (a b : Bool) → cond a true b ≡ false → (a ≡ false) × (b ≡ false)
-or-false true b e = absurd (true≢false e)
-or-false false b e = (refl, e)
-
 early-before : (f : Facts) (ls : List Line) → factsOf f ls .early ≡ false → f .early ≡ false
 unfolding factsOf factsWith
 early-before f [] e = e
@@ -86,15 +81,11 @@ burn-last f l (m ∷ ls) e b =
     let g = factsWith f l in
     (or-false (isBurn l) (g .early) (early-before (factsWith g m) ls e) .0, burn-last g m ls e b)
 
-not-amiss : (burnt early : Bool) → cond burnt early true ≡ false → (burnt ≡ true) × (early ≡ false)
-not-amiss true early e = (refl, e)
-not-amiss false early e = absurd (true≢false e)
-
 pub burns : (ls : List Line) → 0 < length ls → burnAmissIn (factsOf start ls) ≡ false → BurnLast ls
 unfolding burnAmissIn
 burns [] h e = absurd (let y : ⊥ = omega arith in y)
 burns (l ∷ ls) h e =
-    let b = not-amiss (factsOf start (l ∷ ls) .burnt) (factsOf start (l ∷ ls) .early) e in
+    let b = must-pass (factsOf start (l ∷ ls) .burnt) (factsOf start (l ∷ ls) .early) e in
     burn-last start l ls (b .1) (b .0)
 
 pub burn-drop : (k : ℕ) (ls : List Line) → k < length ls → BurnLast ls → BurnLast (drop k ls)

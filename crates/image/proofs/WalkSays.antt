@@ -62,7 +62,7 @@ good-says n t l e =
     kept true x e = cc
     kept false x e = e
 
--- ---- the firstRefusal line of some that are all good
+-- ---- the first line of some that are all good
 module _ (f g : Facts) (t : List ℕ) (ts : List (List ℕ)) where
   pub record Goes : Type 0 where
     pub reads : readLine (lineNumber (f .lines + 1)) t ≡ Good (lineSays t)
@@ -79,7 +79,7 @@ module _ (f g : Facts) (t : List ℕ) (ts : List (List ℕ)) where
   unfolding factsFrom
   goes p = goes-by _ refl p
 
--- ---- the walk's end is the firstRefusal of the lines' answers
+-- ---- the walk's end is the first refusal of the lines' answers
 unfoldable pub answerBy : Told → FileAnswer → FileAnswer
 answerBy (Whole g) a = a
 answerBy (Bad r) a = answer.Refused r

@@ -1,6 +1,6 @@
 -- The tests of the whole file, each by the bytes of the lines: the burn, the spots and the identifiers, both ways. Assumes nothing.
-use mathlib.Core.Path.{_≡_, refl, sym, ap, _∙_}
-use mathlib.Core.Bool.{Bool, true, false, cond, not, true≢false}
+use mathlib.Core.Path.{_≡_, sym, ap, _∙_}
+use mathlib.Core.Bool.{true, false, not, true≢false}
 use mathlib.Core.List.{List}
 use Prim.Native.Nat.{ℕ, _+_, _-_, _*_, _%_, _≤_, _<_}
 use native.Mathlib.Omega.{arith}
@@ -16,14 +16,10 @@ use Rattle.image.specs.Says.{idOf, isC6, fileKind, fileConfigs, idLine, 
 use Rattle.summary.specs.Burn.{isBurn}
 use Rattle.image.specs.Tests.{fitsNone, burnAt, burnAmiss, beyond, otherSpot, sameIds}
 use Rattle.image.specs.Meets.{commandIn, dataIn, BurnBytes, numbered, Spelled}
-use Rattle.image.proofs.Search.{none-below, below-none}
+use Rattle.image.proofs.Search.{none-below, below-none, must-pass}
 use Rattle.image.proofs.Counting.{count-is, inside}
 use Rattle.image.proofs.LineBytes.{burn-bytes, bytes-burn, id-is}
 use Rattle.image.proofs.LinesAndBytes.{Forms, spelled-length, says, id-line, crc-line}
-
-must-pass : (a b : Bool) → cond a b true ≡ false → (a ≡ true) × (b ≡ false)
-must-pass true b e = (refl, e)
-must-pass false b e = absurd (true≢false e)
 
 -- no file is refused for BEYOND: where n fits a k, the lines of every configuration are within the file
 pub never-beyond : (ls : List (List ℕ)) → fitsNone ls ≡ false → beyond ls ≡ false

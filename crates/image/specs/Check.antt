@@ -1,4 +1,4 @@
--- The answer for a whole file: the firstRefusal fault in a written list of tests, in the order of document 01, "Numbers for a file".
+-- The answer for a whole file: the first fault in a written list of tests, in the order of document 01, "Numbers for a file".
 -- Assumes nothing.
 use Prim.Native.Nat.{ℕ, _+_}
 use mathlib.Core.Bool.{Bool, true, false}
@@ -34,7 +34,7 @@ unfoldable pub lineAnswer : LineNumber → LineReading → FileAnswer
 lineAnswer n (reading.Good l) = Accepted
 lineAnswer n (reading.Refused fault) = Refused (Line n fault)
 
--- those of all lines, the firstRefusal of which has the number n
+-- those of all lines, the first of which has the number n
 unfoldable pub lineAnswers : ℕ → List (List ℕ) → List FileAnswer
 lineAnswers n [] = []
 lineAnswers n (t ∷ ts) = lineAnswer (lineNumber n) (readLine (lineNumber n) t) ∷ lineAnswers (n + 1) ts
@@ -46,7 +46,7 @@ wholeAnswers ls =
     ∷ refusedIf (fitsNone ls) Count ∷ refusedIf (burnAmiss ls) Burn ∷ refusedIf (beyond ls) Beyond
     ∷ refusedIf (otherSpot ls) Spot ∷ refusedIf (sameIds ls) Same ∷ []
 
--- 1; then the firstRefusal faulty line, and in it 2 to 6; then the whole file's
+-- 1; then the first faulty line, and in it 2 to 6; then the whole file's
 unfoldable pub answerOf : List ℕ → FileAnswer
 answerOf s = firstRefusal (refusedIf (tooLong s) Size ∷ (lineAnswers 1 (linesOf s) ++ wholeAnswers (linesOf s)))
 
