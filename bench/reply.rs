@@ -1,12 +1,44 @@
 //! One reply in the loop of write lines: the proved session, by an entry for measuring, against a plain one in Rust that does the
-//! same work for each reply: it looks at the state it holds, judges the reply, reads and checks the line that is due, and makes the
-//! request. Both start behind a check of the file, whose time is taken off.
+//! same work for each reply: it takes the reply from the input, looks at the state it holds, judges the reply, reads and checks the
+//! line that is due, and makes the request. Both start with line 5 out, and the time until then is taken off: in the proved one it
+//! is spent on the input, the check of the file and the replies of step 2.
 use crate::plain::{nibble, REMAINDERS};
 use crate::times::{black_box, least, Row};
 
 #[link(name = "measured", kind = "static")]
 extern "C" {
-    pub fn measured_replies(text: *const u8, length: usize, replies: u32) -> u32;
+    pub fn measured_replies(input: *const u8, length: usize, replies: u32) -> u32;
+}
+
+/// The lines of the file; the replies of step 2; and those behind line 5.
+const LINES: u32 = 2916;
+const OPENING: u32 = 6;
+const REPLIES: u32 = LINES - 5;
+pub const ALL: u32 = OPENING + REPLIES;
+
+/// The reply to a read, as it stands in a dry run: done, its length, its bytes and their PEC.
+fn told(command: u8, said: &[u8]) -> Vec<u8> {
+    let pec = [0xC0, command, 0xC1].iter().chain(said).fold(0, |crc, byte| REMAINDERS[(crc ^ byte) as usize]);
+    [&[1, said.len() as u8 + 1], said, &[pec]].concat()
+}
+
+/// The dry run of an accepted production file (crates/dryrun/src/parts.rt): step 1 not wanted, poll limit 1, RESTORE_CFG F2; the
+/// file; step 2 of a new device that fits it; and an acknowledgement for every line but the last.
+pub fn dry_run(text: &[u8]) -> Vec<u8> {
+    let digit = |at: usize| nibble(text[at]).expect("a digit of line 1");
+    let [a, b, c, d] = [14, 12, 10, 8].map(|at| 16 * digit(at) + digit(at + 1));
+    let acknowledged = [1u8, 0];
+    let mut input = vec![0, 1, 0, 0xF2];
+    input.extend((text.len() as u32).to_le_bytes());
+    input.extend(text);
+    input.extend(acknowledged);
+    input.extend(told(0xC5, &[28, 0, 0, 0]));
+    input.extend(told(0xAD, &[4, a, b, c, d]));
+    input.extend(acknowledged);
+    input.extend(told(0xC5, &[0, 0, 0, 0]));
+    input.extend(told(0xAE, &[4, 0, 0, 0, 6]));
+    input.extend(acknowledged.repeat(REPLIES as usize));
+    input
 }
 
 struct Held {
@@ -77,27 +109,35 @@ fn reply(held: &mut Held, text: &[u8], kind: u8, bytes: &[u8]) -> Option<Request
     Some(request)
 }
 
-fn plain(text: &[u8], lines: u32, replies: u32) -> u32 {
+/// Kind and bytes of the reply at a place of the input, and the place behind it.
+fn reply_at(input: &[u8], at: usize) -> Option<(u8, &[u8], usize)> {
+    let start = at + 2;
+    let end = start + *input.get(at + 1)? as usize;
+    Some((input[at], input.get(start..end)?, end))
+}
+
+fn plain(input: &[u8], text: &[u8], replies: u32) -> u32 {
     let place = text.iter().enumerate().filter(|(_, &byte)| byte == b'\n').nth(4).map_or(0, |(at, _)| at + 1);
-    let mut held =
-        Held { lines, configs: 8, limit: 1, polls: 0, config: 0, ids: [0, 1, 2, 3, 4, 5, 6, 7], line: 5, place, sent: 7, burned: false };
+    let ids = [0, 1, 2, 3, 4, 5, 6, 7];
+    let mut held = Held { lines: LINES, configs: 8, limit: 1, polls: 0, config: 0, ids, line: 5, place, sent: 7, burned: false };
+    let mut at = input.len() - 2 * REPLIES as usize;
     for _ in 0..replies {
-        if let Some(request) = reply(black_box(&mut held), black_box(text), 1, &[]) {
-            black_box((request.bytes, request.used, request.reads));
+        if let Some((kind, bytes, end)) = reply_at(black_box(input), at) {
+            if let Some(request) = reply(black_box(&mut held), black_box(text), kind, bytes) {
+                black_box((request.bytes, request.used, request.reads));
+            }
+            at = end;
         }
     }
     held.sent
 }
 
-/// The lines of the file, and the replies behind line 5.
-pub const LINES: u32 = 2916;
-pub const REPLIES: u32 = LINES - 5;
-
 pub fn rows(text: &[u8]) -> Vec<Row> {
-    let proved = |n| unsafe { measured_replies(black_box(text).as_ptr(), text.len(), n) };
-    assert_eq!((proved(REPLIES), plain(text, LINES, REPLIES)), (7 + REPLIES, 7 + REPLIES));
-    let [a, b, c, d] =
-        least(3, [&|| proved(REPLIES), &|| proved(0), &|| plain(text, LINES, REPLIES), &|| plain(text, LINES, 0)]);
+    let input = dry_run(text);
+    let proved = |n| unsafe { measured_replies(black_box(&input).as_ptr(), input.len(), n) };
+    let plain = |n| plain(&input, text, n);
+    assert_eq!((proved(OPENING), proved(ALL), plain(0), plain(REPLIES)), (7, 7 + REPLIES, 7, 7 + REPLIES));
+    let [a, b, c, d] = least(3, [&|| proved(ALL), &|| proved(OPENING), &|| plain(REPLIES), &|| plain(0)]);
     let each = f64::from(REPLIES);
     vec![Row { what: "reply to a write line", ours: (a - b) / each, plain: (c - d) / each, goal: Some(1.5) }]
 }

@@ -1,7 +1,7 @@
 //! The stack that a call uses: it is made on a stack of its own that is filled with a pattern, and what lies above the lowest byte
 //! that was changed is used. What the call saves is in it; the caller's own frame is not.
 use crate::check::tehilgam_refusal;
-use crate::reply::{measured_replies, REPLIES};
+use crate::reply::{dry_run, measured_replies, ALL};
 use std::arch::asm;
 
 const PATTERN: u8 = 0xA5;
@@ -36,5 +36,5 @@ unsafe extern "C" fn refusal(text: *const u8, length: usize, _: u32) -> u32 {
 
 pub fn print(text: &[u8]) {
     println!("stack of a check, by tehilgam_refusal: {} bytes", used(refusal, text, 0));
-    println!("stack of a reply, by measured_replies, with the sessions that its loop holds: {} bytes", used(measured_replies, text, REPLIES));
+    println!("stack of a reply, by measured_replies, with the sessions that its loop holds: {} bytes", used(measured_replies, &dry_run(text), ALL));
 }

@@ -11,5 +11,5 @@ use Rattle.promise.proofs.Equal.{one-answer}
 pub one-measured-run-with : (table : List ℕ) (register : ℕ) (bytes : List ℕ) → One (λ r. r ≡ runWith table register bytes)
 one-measured-run-with table register bytes = one-answer _
 
-pub one-measured-replies : (text : List ℕ) (replies : ℕ) → One (λ r. r ≡ sentAfter text replies)
-one-measured-replies text replies = one-answer _
+pub one-measured-replies : (input : List ℕ) (replies : ℕ) → One (λ r. r ≡ sentAfter input replies)
+one-measured-replies input replies = one-answer _

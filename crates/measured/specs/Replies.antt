@@ -1,41 +1,37 @@
--- A session in the middle of a file's write lines, each acknowledged: what bench/ measures. Assumes nothing.
-use Prim.Native.Nat.{ℕ, zero, suc, _+_}
-use mathlib.Core.Bool.{false}
-use mathlib.Core.List.{List, []}
-use lib.ListN.{drop}
-use Rattle.counts.specs.Counts.{lineNumber, configNumber}
-use Rattle.line.specs.Lines.{placeOf}
-use Rattle.image.specs.Check.{checkOf}
-use Rattle.bus.specs.Bus.{noRequest}
+-- A dry run of which only so many replies are given: what bench/ measures. Assumes nothing.
+use Prim.Native.Nat.{ℕ, zero, suc, _-_}
+use mathlib.Core.List.{List}
+use lib.ListN.{take, drop}
 use Rattle.session.specs.declared.Session.{Session}
-use Rattle.session.specs.declared.Stage.the-variants.{Open}
-use Rattle.session.specs.declared.Awaited.the-variants.{LineOut}
+use Rattle.session.specs.Begin.{beginOf}
 use Rattle.session.specs.Reply.{replyOf}
+use Rattle.dryrun.specs.declared.Input.{Input}
+use Rattle.dryrun.specs.declared.Input.the-variants.{CutShort, TooLong, Whole}
+use Rattle.dryrun.specs.declared.Found.{Found}
+use Rattle.dryrun.specs.declared.Found.the-variants.{End, Reply, Part}
+use Rattle.dryrun.specs.Parts.{foundAt, inputOf}
 
-unfoldable pub lineFiveOut : List ℕ → Session
-lineFiveOut text =
-    record {
-      settings = record { wanted = false; limit = 1; restore = 0xF2 };
-      file = checkOf text .summary;
-      stage = Open LineOut;
-      hand = noRequest;
-      position =
-          record {
-            line = lineNumber 5;
-            place = checkOf text .summary .line5 + placeOf 1 (drop (checkOf text .summary .line5) text);
-            config = configNumber 0;
-            polls = 0;
-            counter = 0;
-            identity = 0;
-            flag = 0;
-          };
-      sent = 7;
-      burned = false;
-    }
+-- the bytes from one place to another
+abbrev pub part : List ℕ → ℕ → ℕ → List ℕ
+part s start end = take (end - start) (drop start s)
 
-unfoldable pub acknowledged : List ℕ → ℕ → Session
-acknowledged text zero = lineFiveOut text
-acknowledged text (suc n) = replyOf text (acknowledged text n) 1 [] .session
+-- where no whole reply stands the session stays as it is, else it goes on behind the reply
+unfoldable pub afterBy : List ℕ → List ℕ → Session → Found → (ℕ → Session → Session) → Session
+afterBy input file s End on = s
+afterBy input file s (Reply kind start end) on = on end (replyOf file s kind (part input start end) .session)
+afterBy input file s Part on = s
+
+-- the session after so many of the replies from a place on
+unfoldable pub after : List ℕ → List ℕ → ℕ → ℕ → Session → Session
+after input file zero at s = s
+after input file (suc n) at s = afterBy input file s (foundAt input at) (after input file n)
+
+-- begun with the settings and the file of the input
+unfoldable pub sentBy : List ℕ → ℕ → Input → ℕ
+sentBy input n CutShort = 0
+sentBy input n TooLong = 0
+sentBy input n (Whole h) =
+    after input (part input 8 (h .behind)) n (h .behind) (beginOf (h .settings) (part input 8 (h .behind)) .session) .sent
 
 unfoldable pub sentAfter : List ℕ → ℕ → ℕ
-sentAfter text n = acknowledged text n .sent
+sentAfter input n = sentBy input n (inputOf input)

@@ -1,15 +1,10 @@
 // Entries for bench/ alone: functions of the delivery that C or Rust could not call by themselves. Nothing delivered uses them.
-use bus::Bus;
-use counts::ConfigNumber;
-use counts::LineNumber;
-use session::Awaited;
-use session::Position;
+use dryrun::Found;
+use dryrun::Input;
 use session::Session;
-use session::Settings;
-use session::Stage;
 ghost use mathlib.Core.Path.{_≡_};
 ghost use Rattle.pec.specs.Lent.{runWith};
-ghost use Rattle.measured.specs.Replies.{lineFiveOut, sentAfter};
+ghost use Rattle.measured.specs.Replies.{after, sentAfter};
 
 // The register after some bytes, by a table that the caller has made once.
 #[no_mangle]
@@ -19,47 +14,45 @@ pub extern "C" fn measured_run_with(table: &[u8; 256], register: u8, bytes: &[u8
     pec::run_with(table, register, bytes)
 }
 
-// A session of this file with line 5 out.
-fn line_5_out(text: &[u8]) -> Session
-    ensures { λ r. ⌜ r ≡ lineFiveOut (now (text .entry)) ⌝ }
+// The session once it was given so many of the replies from a place of the input on, or those that there are.
+fn fed(begun: Session, input: &[u8], file: &[u8], from: usize, replies: u32) -> Session
+    ensures { λ r. ⌜ r ≡ after (now (input .entry)) (now (file .entry)) replies from begun ⌝ }
 {
-    let checked = image::check(text);
-    let summary = checked.summary;
-    let first = summary.line5;
-    Session {
-        settings: Settings {
-            wanted: false,
-            limit: 1,
-            restore: 0xF2,
-        },
-        file: summary,
-        stage: Stage::Open(Awaited::LineOut),
-        hand: Bus::none(),
-        position: Position {
-            line: LineNumber(5),
-            place: line::skip(text, first, 1),
-            config: ConfigNumber(0),
-            polls: 0,
-            counter: 0,
-            identity: 0,
-            flag: 0,
-        },
-        sent: 7,
-        burned: false,
+    let mut s = begun;
+    let mut at = from;
+    let mut left = replies;
+    while 0 < left {
+        left -= 1;
+        let found = dryrun::reply_at(input, at);
+        match found {
+            Found::End => return s,
+            Found::Reply(kind, start, end) => {
+                let handed = s.reply(file, kind, &input[start..end]);
+                s = handed.session;
+                at = end;
+            }
+            Found::Part => return s,
+        }
     }
+    s
 }
 
-// The requests put out once so many write lines of a file were acknowledged, from line 5 on.
+// The requests put out in a dry run of which only so many replies are given; 0 where the input is not whole.
 #[no_mangle]
-pub extern "C" fn measured_replies(text: &[u8], replies: u32) -> u32
-    ensures { λ r. ⌜ r ≡ sentAfter (now (text .entry)) replies ⌝ }
+pub extern "C" fn measured_replies(input: &[u8], replies: u32) -> u32
+    ensures { λ r. ⌜ r ≡ sentAfter (now (input .entry)) replies ⌝ }
 {
-    let mut s = line_5_out(text);
-    let mut i: u32 = 0;
-    while i < replies {
-        let handed = s.reply(text, 1, &text[..0]);
-        s = handed.session;
-        i += 1;
+    let parsed = dryrun::parse(input);
+    match parsed {
+        Input::CutShort => 0,
+        Input::TooLong => 0,
+        Input::Whole(header) => {
+            let settings = header.settings;
+            let behind = header.behind;
+            let file = &input[8..behind];
+            let begun = settings.begin(file);
+            let s = fed(begun.session, input, file, behind, replies);
+            s.sent
+        }
     }
-    s.sent
 }

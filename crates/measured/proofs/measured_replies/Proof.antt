@@ -1,46 +1,54 @@
--- Before turn i the session is that of i lines acknowledged. Assumes nothing.
-use mathlib.Core.Path.{_≡_, ap, _∙_}
-use Prim.Native.Nat.{_≤_, _-_}
-use native.Mathlib.Numerals.{add-one}
-use Rattle.session.specs.declared.Session.{Session}
-use Rattle.session.specs.declared.Handed.{Handed}
-use Rattle.measured.specs.Replies.{acknowledged, sentAfter}
+-- The file of an input that is whole lies within it, and each part is as the definition has it. Assumes nothing.
+use mathlib.Core.Path.{sym, _∙_}
+use Rattle.dryrun.proofs.Inside.{header-within}
+use Rattle.measured.specs.Replies.{sentBy, sentAfter}
 use borrow.Author.Needs.{needs}
 use Rattle.measured.proofs.measured_replies.Statement.{statement}
 use Rattle.measured.proofs.measured_replies.Tie as tie
 
-abbrev Inv-loop : tie.InvT-loop
-Inv-loop text replies s₀ i₀ s i = (i ≤ replies) × (s ≡ acknowledged text i)
+sub-file : tie.Need-sub-file
+sub-file c =
+    let parsed = c .before .before in
+    (header-within _ _ (sym (parsed .before .before .parse .ensures) ∙ parsed .parsed .given .1)) .0
 
-abbrev μ-loop : tie.MeasureT-loop
-μ-loop text replies s₀ i₀ s i = replies - i
+part-file-start : tie.Need-part-file-start
+part-file-start c =
+    let parsed = c .before .before in
+    (header-within _ _ (sym (parsed .before .before .parse .ensures) ∙ parsed .parsed .given .1)) .0
 
-loop-holds : tie.Need-loop-holds Inv-loop μ-loop
-unfolding acknowledged
-loop-holds c = (search needs, c .line-5-out .ensures)
+part-file-end : tie.Need-part-file-end
+part-file-end c =
+    let parsed = c .before .before in
+    (header-within _ _ (sym (parsed .before .before .parse .ensures) ∙ parsed .parsed .given .1)) .1
 
-loop-again : tie.Need-loop-again Inv-loop μ-loop
-unfolding acknowledged
-loop-again c = (search needs, ap (λ (h : Handed). h .session) (c .before .reply .ensures) ∙ rw (add-one, c .before .before .before .before .loop .inv .1))
+returns : tie.Need-returns
+unfolding sentAfter sentBy
+returns c = rw (← c .before .before .parse .ensures, c .enum-told .given .1)
 
-returns : tie.Need-returns Inv-loop μ-loop
-unfolding sentAfter
-returns c =
-    let loop = c .before .loop in
-    let all : loop .i ≡ c .before .before .before .before .args .replies = search needs in
-    ap (λ (x : Session). x .sent) (loop .inv .1) ∙ rw all
+returns-2 : tie.Need-returns-2
+unfolding sentAfter sentBy
+returns-2 c = rw (← c .before .before .parse .ensures, c .enum-told2 .given .1)
+
+returns-3 : tie.Need-returns-3
+unfolding sentAfter sentBy
+returns-3 c =
+    let begun = c .before in
+    let parsed = begun .before .before .before .before in
+    rw (c .fed .ensures, begun .begin .ensures, ← parsed .before .before .parse .ensures, parsed .parsed .given .1)
 
 pub measured-replies-spec : {M : Type 1} → statement M
 measured-replies-spec =
     tie.close
     (tie.spec
-    Inv-loop
-    μ-loop
-    (λ c κs. search needs)
-    loop-holds
-    (λ c. search needs)
     (λ c κs. search needs)
     (λ c. search needs)
     (λ c. search needs)
-    loop-again
-    returns)
+    (λ c. search needs)
+    sub-file
+    part-file-start
+    part-file-end
+    (λ c κs. search needs)
+    (λ c κs. search needs)
+    returns
+    returns-2
+    returns-3)
