@@ -9,7 +9,7 @@ use lib.Dec.{eqb, ltb}
 use Rattle.counts.specs.declared.LineNumber.{LineNumber}
 use Rattle.line.specs.declared.NextLine as line
 use Rattle.line.specs.declared.NextLine.the-variants.{End, Took, Stopped}
-use Rattle.line.proofs.Basics.{split}
+use Rattle.promise.proofs.Basics.{split}
 use Rattle.summary.specs.declared.FileAnswer as image
 use Rattle.summary.specs.declared.FileAnswer.the-variants.{Accepted, Refused}
 use Rattle.summary.specs.declared.Summary.{Summary}

@@ -5,7 +5,7 @@ use mathlib.Core.List.{List, []}
 use Prim.Native.Nat.{ℕ, _+_, _-_, _<_, _≤_}
 use native.Mathlib.Omega.{arith}
 use lib.ListN.{getD}
-use Rattle.line.specs.Lines.{linesOf}
+use Rattle.cuts.specs.Lines.{linesOf}
 use Rattle.counts.specs.declared.Kind.{Kind}
 use Rattle.counts.specs.declared.Kind.the-variants.{Legacy, Production}
 use Rattle.line.specs.Digits.{digitVal}

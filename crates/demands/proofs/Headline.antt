@@ -7,9 +7,9 @@ use Prim.Native.Nat.{ℕ, zero, suc, _+_, _-_, _≤_, _<_}
 use native.Mathlib.Omega.{arith}
 use lib.Seq.{getD-drop}
 use lib.ListN.{length, getD, drop, length-drop}
-use Rattle.line.specs.Lines.{linesOf}
+use Rattle.cuts.specs.Lines.{linesOf}
 use Rattle.line.specs.LineForm.{LineForm}
-use Rattle.line.proofs.Basics.{split}
+use Rattle.promise.proofs.Basics.{split}
 use Rattle.summary.specs.declared.FileAnswer.{FileAnswer}
 use Rattle.summary.specs.declared.FileAnswer.the-variants.{Accepted, Refused}
 use Rattle.image.specs.Check.{checkOf}

@@ -10,7 +10,7 @@ use lib.ListN.{length, drop, getD, length-take}
 use borrow.Author.Tests.{eqb-true}
 use Rattle.line.specs.Reading.{lineOf}
 use Rattle.line.specs.LineForm.{Row, identity, revision, third, fourth, two, four, LineForm}
-use Rattle.line.proofs.Basics.{and-true}
+use Rattle.promise.proofs.Basics.{and-true}
 use Rattle.line.proofs.GoodExactly.{form-length}
 use Rattle.image.specs.Meets.{BurnBytes}
 use Rattle.bus.specs.declared.Request.{Request}

@@ -5,7 +5,7 @@ use mathlib.Core.List.{List, [], _∷_, List·Memᴰ, List·Memᴰ·head, List·
 use Prim.Native.Nat.{ℕ}
 use lib.Dec.{leb}
 use borrow.Author.Tests.{leb-true, not-true}
-use Rattle.line.proofs.Basics.{and-true}
+use Rattle.promise.proofs.Basics.{and-true}
 use Rattle.bus.specs.Bus.{noRequest, reserved}
 use Rattle.guide.specs.declared.Verdict.{Verdict}
 use Rattle.guide.specs.Plan.{Reply}

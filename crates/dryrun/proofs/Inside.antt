@@ -7,7 +7,7 @@ use native.Mathlib.Omega.{arith}
 use lib.Dec.{ltb}
 use lib.ListN.{length}
 use borrow.Author.Tests.{ltb-false}
-use Rattle.line.proofs.Basics.{split}
+use Rattle.promise.proofs.Basics.{split}
 use Rattle.dryrun.specs.declared.Header.{Header}
 use Rattle.dryrun.specs.declared.Input.{Input}
 use Rattle.dryrun.specs.declared.Input.the-variants.{CutShort, TooLong, Whole}

@@ -7,7 +7,7 @@ use native.Mathlib.Omega.{arith}
 use lib.Dec.{ltb}
 use lib.ListN.{length, length-append}
 use borrow.Author.Tests.{ltb-true}
-use Rattle.line.proofs.Basics.{split}
+use Rattle.promise.proofs.Basics.{split}
 use Rattle.bus.specs.declared.Request.{Request}
 use Rattle.session.specs.declared.Report.{Report}
 use Rattle.session.specs.declared.Report.the-variants.{Waiting, Is}

@@ -6,7 +6,7 @@ use native.Mathlib.Omega.{arith}
 use lib.Dec.{ltb, leb}
 use lib.ListN.{length}
 use borrow.Author.Tests.{ltb-false, leb-false}
-use Rattle.line.proofs.Basics.{split}
+use Rattle.promise.proofs.Basics.{split}
 use Rattle.dryrun.specs.declared.Found.the-variants.{End, Reply, Part}
 use Rattle.dryrun.specs.Parts.{foundAt, wholeBy, wholeReplies, byte}
 

@@ -9,7 +9,7 @@ use native.Mathlib.Omega.{arith}
 use lib.Dec.{eqb, ltb}
 use borrow.Author.Tests.{ltb-true, ltb-false, eqb-true, eqb-false, ne-eqb}
 use Rattle.counts.specs.declared.Bank.{Bank}
-use Rattle.line.proofs.Basics.{split}
+use Rattle.promise.proofs.Basics.{split}
 use Rattle.guide.specs.Judged.{everyBelow, bank, bankIn, reportsIn, bankRight, banksRight}
 
 -- ---- the test, bank by bank

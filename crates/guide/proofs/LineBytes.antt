@@ -11,7 +11,7 @@ use lib.ListN.{length, drop}
 use borrow.Author.Tests.{eqb-true}
 use Rattle.pec.specs.Pec.{topBit, shift, shifts, remainder, step, pecFrom, pec}
 use Rattle.line.specs.Reading.{lineOf}
-use Rattle.line.proofs.Basics.{and-true}
+use Rattle.promise.proofs.Basics.{and-true}
 use Rattle.line.specs.LineForm.{Row, identity, revision, third, fourth, two, four, LineForm}
 use Rattle.image.specs.Meets.{BurnBytes}
 use Rattle.bus.specs.Bus.{eight, framed}

@@ -5,7 +5,7 @@ use mathlib.Core.List.{List}
 use Prim.Native.Nat.{ℕ, _-_}
 use native.Mathlib.Omega.{arith}
 use lib.ListN.{length}
-use Rattle.line.specs.Lines.{linesOf}
+use Rattle.cuts.specs.Lines.{linesOf}
 use Rattle.line.proofs.Spelling.{spells-values}
 use Rattle.summary.specs.declared.FileAnswer.the-variants.{Accepted}
 use Rattle.image.specs.Check.{checkOf}

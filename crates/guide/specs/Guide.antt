@@ -7,7 +7,7 @@ use lib.Dec.{eqb}
 use lib.ListN.{getD, take, drop}
 use Rattle.counts.specs.Counts.{configNumber, configId}
 use Rattle.line.specs.declared.Line.{Line}
-use Rattle.line.specs.Lines.{linesOf}
+use Rattle.cuts.specs.Lines.{linesOf}
 use Rattle.line.specs.Digits.{digitVal, valuesOf}
 use Rattle.line.specs.Reading.{lineOf}
 use Rattle.summary.specs.declared.Summary.{Summary}

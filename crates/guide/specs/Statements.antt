@@ -9,7 +9,7 @@ use lib.Dec.{eqb}
 use lib.ListN.{length, getD, drop}
 use Rattle.counts.specs.Counts.{configNumber}
 use Rattle.line.specs.declared.Line.{Line}
-use Rattle.line.specs.Lines.{linesOf}
+use Rattle.cuts.specs.Lines.{linesOf}
 use Rattle.line.specs.Digits.{digitVal, valuesOf}
 use Rattle.summary.specs.declared.Summary.{Summary}
 use Rattle.image.specs.Says.{summaryOf}

@@ -3,7 +3,7 @@ use Prim.Native.Nat.{_≤_}
 use native.Mathlib.Omega.{arith}
 use lib.Dec.{eqb}
 use lib.ListN.{length, getD}
-use Rattle.line.proofs.Basics.{split}
+use Rattle.promise.proofs.Basics.{split}
 use Rattle.bus.specs.Bus.{wordBytes}
 use Rattle.bus.specs.declared.Request.{Request}
 use Rattle.host.specs.declared.Regulator.{Regulator}

@@ -8,7 +8,7 @@ use lib.ListN.{length, drop}
 use borrow.Author.Tests.{ltb-false, eqb-false}
 use Rattle.counts.specs.Counts.{configId}
 use Rattle.line.specs.declared.Line.{Line}
-use Rattle.line.specs.Lines.{linesOf}
+use Rattle.cuts.specs.Lines.{linesOf}
 use Rattle.image.specs.declared.Told.{Told}
 use Rattle.image.specs.declared.Told.the-variants.{Whole, Bad}
 use Rattle.summary.specs.declared.FileAnswer.the-variants.{Accepted}

@@ -10,7 +10,7 @@ use Rattle.counts.specs.declared.Kind.{Kind}
 use Rattle.counts.specs.declared.Kind.the-variants.{Legacy, Production}
 use Rattle.counts.specs.declared.KindFound.the-variants.{Is}
 use Rattle.counts.specs.Counts.{stepOf, crcPlace, kindOf, upTo8, configsOf}
-use Rattle.line.proofs.Basics.{split}
+use Rattle.promise.proofs.Basics.{split}
 use Rattle.image.specs.Says.{kindIn}
 use Rattle.image.specs.Tests.{isUnknown}
 use Rattle.image.specs.Meets.{KindHas, legacy0, legacy1, production6, production7}

@@ -12,10 +12,10 @@ use Rattle.line.specs.declared.Line.{Line}
 use Rattle.line.specs.declared.LineReading.{LineReading}
 use Rattle.line.specs.declared.LineReading.the-variants.{Good, Refused}
 use Rattle.line.specs.declared.NextLine.the-variants.{End, Took}
-use Rattle.line.specs.Lines.{linesOf, lineSkip, placeOf}
+use Rattle.cuts.specs.Lines.{linesOf, lineSkip, placeOf}
 use Rattle.line.specs.Reading.{readLine, nextBy, nextOf, nextLine}
-use Rattle.line.proofs.Basics.{split}
-use Rattle.line.proofs.Cuts.{lines-at, place-on, place-none}
+use Rattle.promise.proofs.Basics.{split}
+use Rattle.cuts.proofs.FirstLine.{lines-at, place-on, place-none}
 use Rattle.image.specs.declared.Facts.{Facts}
 use Rattle.image.specs.declared.Told.the-variants.{Whole}
 use Rattle.image.specs.Private.Walk.{noLine, lineIn, factsWith, factsFrom, lineAt}

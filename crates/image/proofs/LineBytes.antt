@@ -10,7 +10,7 @@ use borrow.Author.Tests.{eqb-true}
 use Rattle.counts.specs.Counts.{configId}
 use Rattle.line.specs.Reading.{dataOf, lineOf}
 use Rattle.line.specs.LineForm.{LineForm}
-use Rattle.line.proofs.Basics.{and-true}
+use Rattle.promise.proofs.Basics.{and-true}
 use Rattle.line.proofs.LineParts.{slice-get}
 use Rattle.line.proofs.Rows.{row-count, row-by}
 use Rattle.line.proofs.GoodExactly.{form-length}

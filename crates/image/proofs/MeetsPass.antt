@@ -9,7 +9,7 @@ use borrow.Author.Tests.{le-ltb, ne-eqb}
 use Rattle.counts.specs.declared.Kind.{Kind}
 use Rattle.counts.specs.declared.KindFound.the-variants.{Is}
 use Rattle.counts.specs.Counts.{lineNumber, stepOf, crcPlace, configsOf}
-use Rattle.line.specs.Lines.{linesOf}
+use Rattle.cuts.specs.Lines.{linesOf}
 use Rattle.image.specs.Says.{kindIn, revisionSays, fileKind, fileConfigs}
 use Rattle.image.specs.Tests.{isUnknown, knownDevice, tooLong, tooFew, otherRevision, otherDevice, fitsNone}
 use Rattle.image.specs.Meets.{Meets}

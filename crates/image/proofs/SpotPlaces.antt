@@ -6,12 +6,12 @@ use native.Mathlib.Omega.{arith}
 use lib.ListN.{drop}
 use lib.Dec.{eqb, leb, lit≤}
 use borrow.Author.Tests.{leb-true}
-use Rattle.line.proofs.Basics.{split}
+use Rattle.promise.proofs.Basics.{split}
 use Rattle.counts.specs.declared.Kind.{Kind}
 use Rattle.counts.specs.declared.Kind.the-variants.{Legacy, Production}
 use Rattle.counts.specs.Counts.{lineNumber, configNumber, stepOf, crcPlace, identifierLine, crcLine, configsOf}
-use Rattle.line.specs.Lines.{placeOf}
-use Rattle.line.proofs.Cuts.{place-add}
+use Rattle.cuts.specs.Lines.{placeOf}
+use Rattle.cuts.proofs.FirstLine.{place-add}
 use Rattle.line.specs.Reading.{nextLine}
 use Rattle.image.specs.Private.Walk.{lineIn, lineAt}
 

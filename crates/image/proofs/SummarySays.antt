@@ -6,8 +6,8 @@ use native.Mathlib.Omega.{arith}
 use lib.ListN.{length, getD}
 use borrow.Author.Tests.{lt-ltb}
 use Rattle.counts.specs.Counts.{lineNumber, configId, stepOf, crcPlace}
-use Rattle.line.specs.Lines.{linesOf}
-use Rattle.line.proofs.Cuts.{lines-from}
+use Rattle.cuts.specs.Lines.{linesOf}
+use Rattle.cuts.proofs.FirstLine.{lines-from}
 use Rattle.image.specs.Says.{identityOf, idOf, crcOf, fileConfigs, idLine, configCrcLine, placeIn, eightOf, summaryOf}
 use Rattle.image.specs.Check.{checkedAs, checkOf}
 use Rattle.image.specs.Meets.{Meets, SummarySays}

@@ -11,7 +11,7 @@ use borrow.Author.Tests.{le-ltb}
 use Rattle.counts.specs.declared.Kind.{Kind}
 use Rattle.counts.specs.Counts.{lineNumber, configNumber, configId, lineCount, configsOf, identifierLine, crcLine}
 use Rattle.line.specs.declared.Line.{Line}
-use Rattle.line.specs.Lines.{linesOf, placeOf}
+use Rattle.cuts.specs.Lines.{linesOf, placeOf}
 use Rattle.image.specs.declared.Facts.{Facts}
 use Rattle.image.specs.declared.Told.the-variants.{Whole}
 use Rattle.summary.specs.declared.FileAnswer.the-variants.{Accepted}

@@ -14,10 +14,10 @@ use Rattle.line.specs.declared.Fault.{Fault}
 use Rattle.line.specs.declared.LineReading.{LineReading}
 use Rattle.line.specs.declared.LineReading.the-variants.{Good, Refused}
 use Rattle.line.specs.declared.NextLine.the-variants.{End, Took, Stopped}
-use Rattle.line.specs.Lines.{linesOf, lineSkip}
+use Rattle.cuts.specs.Lines.{linesOf, lineSkip}
 use Rattle.line.specs.Reading.{readLine, nextBy, nextOf, nextLine}
-use Rattle.line.proofs.Basics.{split}
-use Rattle.line.proofs.Cuts.{lineLen, lines-at, next-within, next-after}
+use Rattle.promise.proofs.Basics.{split}
+use Rattle.cuts.proofs.FirstLine.{lineLen, lines-at, next-within, next-after}
 use Rattle.image.specs.declared.Facts.{Facts}
 use Rattle.image.specs.declared.Told.{Told}
 use Rattle.image.specs.declared.Told.the-variants.{Whole, Bad}

@@ -11,7 +11,7 @@ use Rattle.counts.specs.declared.Kind.{Kind}
 use Rattle.counts.specs.Counts.{lineNumber, stepOf, crcPlace, configsOf}
 use Rattle.line.specs.Reading.{lineOf}
 use Rattle.line.specs.declared.Line.{Line}
-use Rattle.line.proofs.Basics.{split}
+use Rattle.promise.proofs.Basics.{split}
 use Rattle.image.specs.Says.{idOf, isC6, fileKind, fileConfigs, idLine, configCrcLine}
 use Rattle.summary.specs.Burn.{isBurn}
 use Rattle.image.specs.Tests.{fitsNone, burnAt, burnAmiss, beyond, otherSpot, sameIds}

@@ -7,7 +7,7 @@ use lib.ListN.{length, getD, drop}
 use Rattle.counts.specs.declared.Kind.{Kind}
 use Rattle.counts.specs.declared.Kind.the-variants.{Legacy, Production}
 use Rattle.counts.specs.Counts.{configId}
-use Rattle.line.specs.Lines.{linesOf}
+use Rattle.cuts.specs.Lines.{linesOf}
 use Rattle.line.specs.LineForm.{Spells, LineForm}
 use Rattle.image.specs.Says.{word}
 use Rattle.image.specs.Check.{checkOf}

@@ -13,7 +13,7 @@ use Rattle.counts.specs.declared.KindFound.{KindFound}
 use Rattle.counts.specs.declared.KindFound.the-variants.{Is, Unknown}
 use Rattle.counts.specs.Counts.{lineNumber, configNumber, configId, kindOf, configsOf, identifierLine, crcLine}
 use Rattle.line.specs.declared.Line.{Line}
-use Rattle.line.specs.Lines.{linesOf, placeOf}
+use Rattle.cuts.specs.Lines.{linesOf, placeOf}
 use Rattle.line.specs.Digits.{digitVal, valuesOf}
 use Rattle.line.specs.Reading.{lineOf}
 use Rattle.summary.specs.declared.Summary.{Summary}

@@ -15,7 +15,7 @@ ghost use mathlib.Core.Path.{_≡_};
 ghost use Prim.Native.Nat.{_+_, _*_, _<_, _≤_};
 ghost use Rattle.pec.specs.Lent.{IsTable};
 ghost use Rattle.counts.specs.Counts.{stepOf};
-ghost use Rattle.line.specs.Lines.{placeOf};
+ghost use Rattle.cuts.specs.Lines.{placeOf};
 ghost use Rattle.line.specs.Digits.{IsDigits};
 ghost use Rattle.line.specs.Reading.{nextLine};
 ghost use Rattle.image.specs.Private.Walk.{lineIn, offSpot, noSpots, spotsWith, spotsTo, sameIn};
@@ -76,11 +76,11 @@ fn spots_with(
     ensures { λ r. ⌜ r ≡ record { spots = spotsWith kind (now (s .entry)) spots n; next = placeOf (stepOf kind * (n + 1)) (now (s .entry)) } ⌝ }
 {
     let config = ConfigNumber(n as u8);
-    let id_at = line::skip(s, at, 11);
+    let id_at = cuts::skip(s, at, 11);
     let id_line = line_at(digits, table, s, id_at, kind.identifier_line(config));
-    let crc_at = line::skip(s, id_at, kind.lines_to_crc() as usize);
+    let crc_at = cuts::skip(s, id_at, kind.lines_to_crc() as usize);
     let crc_line = line_at(digits, table, s, crc_at, kind.crc_line(config));
-    let next = line::skip(s, crc_at, kind.lines_behind_crc() as usize);
+    let next = cuts::skip(s, crc_at, kind.lines_behind_crc() as usize);
     let mut more = spots;
     more.amiss = either(spots.amiss, off_spot(id_line, crc_line));
     more.ids[n] = id_of(id_line);

@@ -60,7 +60,7 @@ fn on_spots(
                 identity: identity_of(first_line),
                 lines: f.lines,
                 configs: k,
-                line5: line::skip(s, 0, 4),
+                line5: cuts::skip(s, 0, 4),
                 ids: ids,
                 crcs: crcs,
             },
@@ -133,7 +133,7 @@ fn on_facts(digits: &[u8; 256], table: &[u8; 256], s: &[u8], f: Facts) -> Checke
     if f.lines < 13 {
         refused_by(Refusal::Count)
     } else {
-        let second = line_at(digits, table, s, line::skip(s, 0, 1), LineNumber(2));
+        let second = line_at(digits, table, s, cuts::skip(s, 0, 1), LineNumber(2));
         on_kind(digits, table, s, f, Kind::of_revision(second.d0))
     }
 }

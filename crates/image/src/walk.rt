@@ -11,7 +11,7 @@ ghost use mathlib.Core.Bool.{cond, true};
 ghost use lib.ListN.{length};
 ghost use Prim.Native.Nat.{_+_, _<_, _≤_, _^_};
 ghost use Rattle.pec.specs.Lent.{IsTable};
-ghost use Rattle.line.specs.Lines.{linesOf};
+ghost use Rattle.cuts.specs.Lines.{linesOf};
 ghost use Rattle.line.specs.Digits.{IsDigits};
 ghost use Rattle.image.specs.Private.Walk.{start, factsWith, factsFrom};
 

@@ -19,7 +19,7 @@ use Rattle.line.specs.declared.LineReading.the-variants.{Good, Refused}
 use Rattle.line.specs.Digits.{digitVal, allDigits, valuesOf}
 use Rattle.line.specs.Reading.{badPairs, lengthRight, crcRight, formRight, lineOf, readValues, readDigits, readLine}
 use Rattle.line.specs.LineForm.{Spells, Row, LineForm}
-use Rattle.line.proofs.Basics.{split}
+use Rattle.promise.proofs.Basics.{split}
 use Rattle.line.proofs.LineParts.{values-length}
 use Rattle.line.proofs.Spelling.{spells-values, spells-digits, spells-length, values-spelled}
 use Rattle.line.proofs.Rows.{row-ok, row-count, ok-row}

@@ -13,7 +13,7 @@ use Rattle.pec.specs.Lent.{IsTable, runWith}
 use Rattle.pec.proofs.Laws.{run-right}
 use Rattle.pec.proofs.Entries.{follows, entry-follows}
 use Rattle.counts.specs.declared.LineNumber.{LineNumber}
-use Rattle.line.specs.Lines.{crLf, linesOf, lineSkip}
+use Rattle.cuts.specs.Lines.{crLf, linesOf, lineSkip}
 use Rattle.line.specs.Digits.{digitVal, isDigit, allDigits, digitRun, valuesOf, digitBy, IsDigits}
 use Rattle.line.specs.Reading.{coveredOf, crcRight, readValues, readDigits, readLine, nextBy, nextOf, nextLine}
 use Rattle.line.specs.Lent.{endingOf, runAt, byEnding, lentNext}
@@ -21,9 +21,9 @@ use Rattle.line.specs.declared.Ending.{Ending}
 use Rattle.line.specs.declared.Ending.the-variants.{Other, Next}
 use Rattle.line.specs.declared.NextLine.{NextLine}
 use Rattle.line.specs.declared.NextLine.the-variants.{End}
-use Rattle.line.proofs.Basics.{split}
+use Rattle.promise.proofs.Basics.{split}
 use Rattle.line.proofs.LineParts.{run-digits, values-lt, slice-get, slice-past}
-use Rattle.line.proofs.Cuts.{lineLen, crlf-lf, lines-at}
+use Rattle.cuts.proofs.FirstLine.{lineLen, crlf-lf, lines-at}
 
 -- ---- the table of digits: one test over its entries, and past them every byte is no digit
 neither : (a : Bool) → cond a false false ≡ false

@@ -1,9 +1,6 @@
-pub mod Basics
 pub mod LineParts
-pub mod Cuts
 pub mod LentIsRight
 pub mod Taking
-pub mod BlockCounts
 pub mod Spelling
 pub mod Rows
 pub mod Order

@@ -9,7 +9,7 @@ use lib.ListN.{length, getD, take, drop, drop-of-length-le, List·getD-eq-defaul
 use lib.Seq.{getD-drop, getD-take, slice, slice-cons, length-slice, length-take-le}
 use Rattle.pec.specs.Lent.{stepWith, runWith}
 use Rattle.line.specs.Digits.{isDigit, allDigits, digitRun, pairVal, valuesOf}
-use Rattle.line.proofs.Basics.{split, drop-at1}
+use Rattle.promise.proofs.Basics.{split, drop-at1}
 
 module _ (digit : ℕ → ℕ) where
   -- ---- the run of digits from a place on

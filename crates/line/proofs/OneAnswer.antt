@@ -2,14 +2,12 @@
 -- of these to the source. Assumes nothing.
 use mathlib.Core.Path.{_∙_, _≡_, sym}
 use mathlib.Core.List.{List}
-use Prim.Native.Nat.{_+_, _<_, ℕ}
+use Prim.Native.Nat.{_<_, ℕ}
 use native.Mathlib.Omega.{arith}
-use lib.ListN.{drop}
 use lib.Seq.{ext-getD}
 use borrow.Author.Tests.{lt-ltb}
 use Rattle.counts.specs.declared.LineNumber.{LineNumber}
 use Rattle.line.specs.declared.Fault.{Fault}
-use Rattle.line.specs.Lines.{placeOf}
 use Rattle.line.specs.Digits.{IsDigits, digitBy}
 use Rattle.line.specs.Reading.{faultNumber, nextLine}
 use Rattle.line.specs.Lent.{lentNext}
@@ -31,6 +29,3 @@ one-read-at digits table s at n = one-answer _
 
 pub one-read-one : (s : List ℕ) (at : ℕ) (n : LineNumber) → One (λ r. r ≡ nextLine n at s)
 one-read-one s at n = one-answer _
-
-pub one-skip : (s : List ℕ) (at lines : ℕ) → One (λ r. r ≡ at + placeOf lines (drop at s))
-one-skip s at lines = one-answer _

@@ -8,7 +8,7 @@ use lib.Dec.{eqb, leb, ltb}
 use borrow.Author.Tests.{leb-true, leb-false, le-leb, lt-leb, ltb-true, lt-ltb, eqb-true, eqb-false}
 use Rattle.line.specs.Reading.{someTo32, headOk, bodyOk, formOk}
 use Rattle.line.specs.LineForm.{Row, identity, revision, third, fourth, two, four}
-use Rattle.line.proofs.Basics.{split, and-true}
+use Rattle.promise.proofs.Basics.{split, and-true}
 
 pub row-ok : {n tag command count : ℕ} → Row n tag command count → formOk n tag 0xC0 command count ≡ true
 unfolding formOk headOk bodyOk someTo32

@@ -10,7 +10,7 @@ use lib.Dec.{leb}
 use borrow.Author.Tests.{leb-true, le-leb, lt-leb, lt-ltb}
 use Rattle.line.specs.Digits.{between, digitVal, isDigit, allDigits, pairVal, valuesOf}
 use Rattle.line.specs.LineForm.{Digit, numeral, capital, small, Spells, none, pair}
-use Rattle.line.proofs.Basics.{split, and-true}
+use Rattle.promise.proofs.Basics.{split, and-true}
 
 -- ---- a digit's value
 

@@ -15,7 +15,7 @@ use Rattle.line.specs.Lent.{endingOf, readBy, byEnding, lentNext}
 use Rattle.line.specs.Private.Quick.{headed, endsRun}
 use Rattle.line.specs.declared.Ending.the-variants.{Other, Next}
 use Rattle.line.specs.declared.NextLine.the-variants.{Took}
-use Rattle.line.proofs.Basics.{split, and-true, drop-at1}
+use Rattle.promise.proofs.Basics.{split, and-true, drop-at1}
 use Rattle.line.proofs.LineParts.{values-length}
 use Rattle.line.proofs.LentIsRight.{lent-here}
 

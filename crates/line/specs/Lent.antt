@@ -7,7 +7,7 @@ use lib.ListN.{length, getD, take, drop}
 use lib.Dec.{eqb, ltb}
 use Rattle.pec.specs.Lent.{runWith}
 use Rattle.counts.specs.declared.LineNumber.{LineNumber}
-use Rattle.line.specs.Lines.{crLf}
+use Rattle.cuts.specs.Lines.{crLf}
 use Rattle.line.specs.Digits.{digitBy, digitRun}
 use Rattle.line.specs.Reading.{readDigits, nextBy}
 use Rattle.line.specs.declared.Fault.the-variants.{Char}

@@ -1,4 +1,3 @@
-pub mod Lines
 pub mod Digits
 pub mod Reading
 pub mod Lent

@@ -8,7 +8,7 @@ use lib.Seq.{slice}
 use lib.Dec.{eqb, ltb, leb}
 use Rattle.pec.specs.Pec.{pec}
 use Rattle.counts.specs.declared.LineNumber.{LineNumber}
-use Rattle.line.specs.Lines.{linesOf, lineSkip}
+use Rattle.cuts.specs.Lines.{linesOf, lineSkip}
 use Rattle.line.specs.Digits.{digitVal, allDigits, valuesOf}
 use Rattle.line.specs.declared.Line.{Line}
 use Rattle.line.specs.declared.Fault.{Fault}

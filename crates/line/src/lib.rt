@@ -1,17 +1,14 @@
 // One line of the text (document 01, "Lines of the file"): its digits, its values, and its reading as an enum. Two tables are
 // made once for a file and lent down: what each byte counts as a digit, and the remainders of the packet error code.
-mod blocks;
 mod digits_table;
 mod scan;
 mod tests;
 mod usual;
 mod values;
 
-use blocks::skip_blocks;
 use counts::LineNumber;
 use digits_table::VALUES;
 use scan::end_at;
-use scan::line_end;
 use scan::run_end;
 use tests::bad_pairs;
 use tests::crc_right;
@@ -24,7 +21,6 @@ ghost use lib.ListN.{length, drop};
 ghost use Prim.Native.Nat.{_+_, _<_};
 ghost use Rattle.pec.specs.Pec.{pec};
 ghost use Rattle.pec.specs.Lent.{runWith};
-ghost use Rattle.line.specs.Lines.{placeOf};
 ghost use Rattle.line.specs.Digits.{IsDigits, digitBy, valuesOf};
 ghost use Rattle.line.specs.Reading.{faultNumber, readValues, readDigits, nextBy, nextLine};
 ghost use Rattle.line.specs.Lent.{lentNext};
@@ -72,12 +68,6 @@ enum Ending {
 enum Taken {
     Is(Line, usize),
     Not,
-}
-
-// A place, and how many lines are left to skip from there.
-struct Skipped {
-    pub at: usize,
-    pub left: usize,
 }
 
 impl Fault {
@@ -182,25 +172,4 @@ pub fn read_one(s: &[u8], at: usize, n: LineNumber) -> NextLine
     let digits = digits();
     let table = pec::table();
     read_at(&digits, &table, s, at, n)
-}
-
-// Line by line.
-fn skip_lines(s: &[u8], at: usize, lines: usize) -> usize
-    ensures { λ r. ⌜ r ≡ at + placeOf lines (drop at (now (s .entry))) ⌝ }
-{
-    let mut i = at;
-    let mut left = lines;
-    while 0 < left {
-        i = line_end(s, i);
-        left -= 1;
-    }
-    i
-}
-
-// Where the line starts that comes behind some lines from a place on.
-pub fn skip(s: &[u8], at: usize, lines: usize) -> usize
-    ensures { λ r. ⌜ r ≡ at + placeOf lines (drop at (now (s .entry))) ⌝ }
-{
-    let past = skip_blocks(s, at, lines);
-    skip_lines(s, past.at, past.left)
 }

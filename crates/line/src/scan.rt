@@ -4,7 +4,7 @@ use crate::values::digit;
 ghost use mathlib.Core.Path.{_≡_};
 ghost use lib.ListN.{getD, drop};
 ghost use Prim.Native.Nat.{_+_};
-ghost use Rattle.line.specs.Lines.{crLf, lineSkip};
+ghost use Rattle.cuts.specs.Lines.{crLf};
 ghost use Rattle.line.specs.Digits.{digitBy, digitRun};
 ghost use Rattle.line.specs.Lent.{endingOf};
 
@@ -55,18 +55,4 @@ pub(crate) fn end_at(s: &[u8], e: usize) -> Ending
     } else {
         Ending::Next(e)
     }
-}
-
-// The place behind the line's LF, or the text's end where it has none.
-pub(crate) fn line_end(s: &[u8], at: usize) -> usize
-    ensures { λ r. ⌜ r ≡ at + lineSkip (drop at (now (s .entry))) ⌝ }
-{
-    let mut i = at;
-    while i < s.len() {
-        if s[i] == 10 {
-            return i + 1;
-        }
-        i += 1;
-    }
-    i
 }

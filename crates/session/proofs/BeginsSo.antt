@@ -3,7 +3,7 @@ use Prim.Native.Nat.{ℕ, _+_}
 use mathlib.Core.Path.{_≡_, refl, sym, ap}
 use mathlib.Core.Bool.{true, false}
 use mathlib.Core.List.{List}
-use Rattle.line.proofs.Basics.{split}
+use Rattle.promise.proofs.Basics.{split}
 use Rattle.summary.specs.declared.Summary.{Summary}
 use Rattle.summary.specs.declared.FileAnswer.{FileAnswer}
 use Rattle.summary.specs.declared.FileAnswer.the-variants.{Accepted, Refused}

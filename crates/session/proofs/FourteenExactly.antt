@@ -8,7 +8,7 @@ use Rattle.counts.specs.declared.ConfigNumber.{ConfigNumber}
 use Rattle.line.specs.declared.Fault.{Fault}
 use Rattle.line.specs.declared.Fault.the-variants.{Char, Pairs, Length, Crc, Form}
 use Rattle.line.specs.Reading.{faultNumber}
-use Rattle.line.proofs.Basics.{split}
+use Rattle.promise.proofs.Basics.{split}
 use Rattle.summary.specs.declared.Summary.{Summary}
 use Rattle.summary.specs.declared.Refusal.{Refusal}
 use Rattle.summary.specs.declared.Refusal.the-variants.{Size, Line, Count, Revision, Device, Burn, Spot, Beyond, Same}

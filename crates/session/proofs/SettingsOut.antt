@@ -6,7 +6,7 @@ use mathlib.Core.Bool.{true, false}
 use native.Mathlib.Omega.{arith}
 use lib.Dec.{eqb, leb}
 use borrow.Author.Tests.{leb-true, eqb-true, leb-false, not-false}
-use Rattle.line.proofs.Basics.{split}
+use Rattle.promise.proofs.Basics.{split}
 use Rattle.bus.specs.Bus.{reserved}
 use Rattle.session.specs.declared.Settings.{Settings}
 use Rattle.session.specs.Sound.{settingTests, allowedOf}

@@ -10,7 +10,7 @@ use lib.ListN.{getD, take}
 use borrow.Author.Tests.{ltb-true, leb-true, leb-false, ltb-false, eqb-false, lt-leb, le-ltb, ne-eqb}
 use Rattle.counts.specs.Counts.{configId, lineCount}
 use Rattle.counts.specs.declared.ConfigId.{ConfigId}
-use Rattle.line.proofs.Basics.{split}
+use Rattle.promise.proofs.Basics.{split}
 use Rattle.session.specs.declared.Session.{Session}
 use Rattle.session.specs.Sound.{idsSound, fileTests, fileSound, mostSent, heldTests, heldSound, stateTests, soundOf}
 use Rattle.session.specs.Statements.{Spoiled, setting, configs, lines, line, config, polls, identifier, count}

@@ -1,24 +1,14 @@
 -- Laws of digits, of leading zeros, and of text at a place of a buffer. Assumes nothing.
 use mathlib.Core.Path.{_≡_, refl, sym, ap, _∙_}
-use mathlib.Core.Bool.{Bool, true, false}
 use mathlib.Core.List.{List, [], _∷_, _++_, append-assoc, append-nil}
 use Prim.Native.Nat.{ℕ, zero, suc, _+_, _-_, _/_, _%_, _≤_, _<_}
 use native.Mathlib.Omega.{arith}
-use native.Mathlib.Numerals.{add-one}
 use lib.Dec.{ltb, leb}
 use lib.ListN.{length, getD, set, take, drop, take-append-drop, length-append, length-drop, drop-of-length-le}
-use lib.Seq.{drop-cons, set-split, take-length, take-at, drop-at, drop-drop, length-take-le, drop-append-le}
+use lib.Seq.{set-split, take-length, take-at, drop-at, drop-drop, length-take-le, drop-append-le}
 use borrow.Author.Tests.{le-leb, lt-leb, eq-eqb, ne-eqb, ltb-true, ltb-false, leb-true, leb-false}
+use Rattle.promise.proofs.Basics.{split, drop-at1}
 use Rattle.text.specs.Text.{glyph, digits, hex, zerosBefore, decimal, fits, putAt, behind, Puts}
-
--- by cases on a test, with what the case says
-split : {P : Type 0} (t : Bool) → (t ≡ true → P) → (t ≡ false → P) → P
-split true f g = f refl
-split false f g = g refl
-
--- the element at a place within a list, and what follows it
-from-place : (s : List ℕ) (i : ℕ) → i < length s → drop i s ≡ getD s i 0 ∷ drop (i + 1) s
-from-place s i h = rw (add-one, drop-cons s i 0)
 
 -- what stands from a place on, once that place is stored to
 pub from-store : (s : List ℕ) (i a : ℕ) → i < length s → drop i (set s i a) ≡ a ∷ drop (suc i) s
@@ -71,11 +61,11 @@ digits-turn base i rest out h k =
 
 module _ (s : List ℕ) (i : ℕ) where
   zeros-two : i + 1 < length s → drop i s ≡ getD s i 0 ∷ getD s (i + 1) 0 ∷ drop (i + 1 + 1) s
-  zeros-two h = let k : i < length s = omega arith in from-place s i k ∙ ap (λ (l : List ℕ). getD s i 0 ∷ l) (from-place s (i + 1) h)
+  zeros-two h = let k : i < length s = omega arith in drop-at1 s i k ∙ ap (λ (l : List ℕ). getD s i 0 ∷ l) (drop-at1 s (i + 1) h)
 
   pub zeros-on : i + 1 < length s → getD s i 0 ≡ 48 → zerosBefore (drop i s) ≡ 1 + zerosBefore (drop (i + 1) s)
   unfolding zerosBefore
-  zeros-on h e = rw (zeros-two h, from-place s (i + 1) h, eq-eqb (getD s i 0) 48 e) (omega arith)
+  zeros-on h e = rw (zeros-two h, drop-at1 s (i + 1) h, eq-eqb (getD s i 0) 48 e) (omega arith)
 
   pub zeros-stop : i + 1 < length s → (getD s i 0 ≡ 48 → ⊥) → zerosBefore (drop i s) ≡ 0
   unfolding zerosBefore
@@ -85,7 +75,7 @@ module _ (s : List ℕ) (i : ℕ) where
   unfolding zerosBefore
   zeros-last h =
       split (ltb i (length s))
-      (λ t. let k : i < length s = ltb-true i (length s) t in rw (from-place s i k, drop-of-length-le s {i = i + 1} (omega arith)))
+      (λ t. let k : i < length s = ltb-true i (length s) t in rw (drop-at1 s i k, drop-of-length-le s {i = i + 1} (omega arith)))
       (λ t. rw (drop-of-length-le s {i = i} (ltb-false i (length s) t)))
 
 -- the ten digits, cut as a slice behind their zeros

@@ -10,7 +10,7 @@ use Rattle.counts.specs.declared.Kind.{Kind}
 use Rattle.counts.specs.declared.KindFound.{KindFound}
 use Rattle.counts.specs.declared.KindFound.the-variants.{Is, Unknown}
 use Rattle.counts.specs.Counts.{lineNumber, configNumber, kindOf, configsOf, crcLine}
-use Rattle.line.specs.Lines.{linesOf, placeOf}
+use Rattle.cuts.specs.Lines.{linesOf, placeOf}
 use Rattle.image.specs.declared.Facts.{Facts}
 use Rattle.image.specs.declared.Told.{Told}
 use Rattle.image.specs.declared.Told.the-variants.{Whole, Bad}

@@ -14,7 +14,7 @@ use Rattle.line.specs.declared.NextLine.{NextLine}
 use Rattle.line.specs.declared.NextLine.the-variants.{End, Took, Stopped}
 use Rattle.line.specs.declared.LineReading.{LineReading}
 use Rattle.line.specs.declared.LineReading.the-variants as reading
-use Rattle.line.specs.Lines.{placeOf}
+use Rattle.cuts.specs.Lines.{placeOf}
 use Rattle.line.specs.Reading.{readLine, nextLine}
 use Rattle.image.specs.declared.Facts.{Facts}
 use Rattle.image.specs.declared.Told.{Told}

@@ -5,7 +5,7 @@ use lib.ListN.{drop, length-drop}
 use Rattle.line.specs.Digits.{digitBy}
 use Rattle.line.specs.Lent.{byEnding}
 use Rattle.line.specs.declared.Ending.the-variants.{Other, Next}
-use Rattle.line.proofs.Basics.{via}
+use Rattle.promise.proofs.Basics.{via}
 use Rattle.line.proofs.LineParts.{run-le}
 use Rattle.line.proofs.LentIsRight.{lent-here}
 use borrow.Author.Needs.{needs}

@@ -1,8 +1,8 @@
--- What the private functions are held to that take a write line by the places of its digits or skip lines by blocks of bytes.
--- Nothing public cites this page. Assumes nothing.
-use Prim.Native.Nat.{ℕ, suc, _-_}
+-- What the private functions are held to that take a write line by the places of its digits. Nothing public cites this page.
+-- Assumes nothing.
+use Prim.Native.Nat.{ℕ, _-_}
 use mathlib.Core.Bool.{Bool, false, cond}
-use mathlib.Core.List.{List, [], _∷_}
+use mathlib.Core.List.{List}
 use mathlib.Core.Path.{_≡_}
 use lib.ListN.{getD, take, drop}
 use lib.Dec.{eqb}
@@ -30,8 +30,3 @@ endsRun digit at e s =
 abbrev pub Takes : NextLine → Taken → Type 0
 Takes step (Is l next) = step ≡ Took l next
 Takes step Not = Unit {0}
-
--- how many lines end in a text
-unfoldable pub lineEnds : List ℕ → ℕ
-lineEnds [] = 0
-lineEnds (b ∷ s) = cond (eqb b 10) (suc (lineEnds s)) (lineEnds s)

@@ -1,6 +1,6 @@
 -- By the case of the kind wanted, then the same tests in the same order. Assumes nothing.
 use borrow.Author.Tests.{lt-ltb, le-ltb}
-use Rattle.line.proofs.Basics.{via}
+use Rattle.promise.proofs.Basics.{via}
 use Rattle.guide.specs.Judged.{fitKind}
 use borrow.Author.Needs.{needs}
 use Rattle.guide.proofs.fits.fit_kind.Statement.{statement}

@@ -1,6 +1,6 @@
 -- The same test on what the bank shows, by whether a configuration reports in it. Assumes nothing.
 use borrow.Author.Needs.{needs}
-use Rattle.line.proofs.Basics.{via}
+use Rattle.promise.proofs.Basics.{via}
 use Rattle.guide.specs.Judged.{bankRight}
 use Rattle.guide.proofs.found.bank_right.Statement.{statement}
 use Rattle.guide.proofs.found.bank_right.Tie as tie

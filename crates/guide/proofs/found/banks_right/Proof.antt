@@ -4,7 +4,7 @@ use mathlib.Core.Bool.{true}
 use Prim.Native.Nat.{_-_, _≤_}
 use native.Mathlib.Omega.{arith}
 use borrow.Author.Needs.{needs}
-use Rattle.line.proofs.Basics.{via}
+use Rattle.promise.proofs.Basics.{via}
 use Rattle.guide.specs.Judged.{everyBelow, bankRight, banksRight}
 use Rattle.guide.proofs.Banks.{every-on, every-stop}
 use Rattle.guide.proofs.found.banks_right.Statement.{statement}

@@ -1,5 +1,5 @@
 -- The same tests. Assumes nothing.
-use Rattle.line.proofs.Basics.{via}
+use Rattle.promise.proofs.Basics.{via}
 use Rattle.image.specs.Private.Walk.{offSpot}
 use borrow.Author.Needs.{needs}
 use Rattle.image.proofs.config_lines.off_spot.Statement.{statement}

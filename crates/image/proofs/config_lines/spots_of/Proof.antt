@@ -4,7 +4,7 @@ use Prim.Native.Nat.{_-_, _*_, _≤_}
 use native.Mathlib.Omega.{arith}
 use native.Mathlib.Numerals.{add-one}
 use Rattle.counts.specs.Counts.{stepOf}
-use Rattle.line.specs.Lines.{placeOf}
+use Rattle.cuts.specs.Lines.{placeOf}
 use Rattle.image.specs.declared.Marked.{Marked}
 use Rattle.image.specs.Private.Walk.{spotsTo}
 use Rattle.image.proofs.SpotPlaces.{place-start}

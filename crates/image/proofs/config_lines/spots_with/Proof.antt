@@ -7,7 +7,7 @@ use native.Mathlib.Omega.{arith}
 use lib.ListN.{set, drop}
 use Rattle.counts.specs.declared.ConfigId.{ConfigId}
 use Rattle.counts.specs.Counts.{configNumber, stepOf, crcPlace, identifierLine, crcLine}
-use Rattle.line.specs.Lines.{placeOf}
+use Rattle.cuts.specs.Lines.{placeOf}
 use Rattle.image.specs.declared.Marked.{Marked}
 use Rattle.image.specs.Says.{idOf, crcOf}
 use Rattle.image.specs.Private.Walk.{lineAt, spotsWith}

@@ -3,7 +3,7 @@ use mathlib.Core.Path.{_≡_, refl, sym, _∙_}
 use Prim.Native.Nat.{_-_}
 use lib.ListN.{length, drop, drop-of-length-le}
 use borrow.Author.Tests.{eq-eqb, ne-eqb}
-use Rattle.line.proofs.Basics.{drop-at1}
+use Rattle.promise.proofs.Basics.{drop-at1}
 use Rattle.image.specs.Tests.{isIn}
 use borrow.Author.Needs.{needs}
 use Rattle.image.proofs.device.is_in.Statement.{statement}

@@ -1,7 +1,7 @@
 -- The same tests in the same order. Assumes nothing.
 use mathlib.Core.Path.{ap, _∙_}
 use borrow.Author.Tests.{eq-eqb, ne-eqb}
-use Rattle.line.proofs.Basics.{via}
+use Rattle.promise.proofs.Basics.{via}
 use Rattle.image.specs.Private.Cascade.{onConfigs, onSpots}
 use borrow.Author.Needs.{needs}
 use Rattle.image.proofs.order.on_configs.Statement.{statement}

@@ -2,7 +2,7 @@
 use mathlib.Core.Path.{_≡_, ap, _∙_}
 use borrow.Author.Tests.{lt-ltb, le-ltb}
 use Rattle.line.specs.declared.Line.{Line}
-use Rattle.line.specs.Lines.{placeOf}
+use Rattle.cuts.specs.Lines.{placeOf}
 use Rattle.counts.specs.Counts.{lineNumber, kindOf}
 use Rattle.image.specs.Private.Walk.{lineAt}
 use Rattle.image.specs.Private.Cascade.{onFacts, onKind}

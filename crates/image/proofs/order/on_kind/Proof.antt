@@ -1,7 +1,7 @@
 -- The same tests in the same order. Assumes nothing.
 use mathlib.Core.Path.{ap, _∙_}
 use native.Mathlib.Omega.{arith}
-use Rattle.line.proofs.Basics.{via}
+use Rattle.promise.proofs.Basics.{via}
 use Rattle.image.specs.Tests.{knownDevice}
 use Rattle.image.specs.Private.Cascade.{onKind, onConfigs}
 use Rattle.image.proofs.SpotPlaces.{line-one, configs-le}

@@ -2,8 +2,8 @@
 use mathlib.Core.Path.{_≡_, ap, _∙_}
 use mathlib.Core.Bool.{true, false}
 use Rattle.counts.specs.Counts.{lineNumber}
-use Rattle.line.specs.Lines.{placeOf}
-use Rattle.line.proofs.Basics.{via}
+use Rattle.cuts.specs.Lines.{placeOf}
+use Rattle.promise.proofs.Basics.{via}
 use Rattle.image.specs.Says.{identityOf}
 use Rattle.image.specs.Private.Walk.{lineAt}
 use Rattle.image.specs.Private.Cascade.{onSpots}

@@ -3,8 +3,8 @@ use mathlib.Core.Path.{_≡_, refl, sym, _∙_}
 use Prim.Native.Nat.{_+_, _-_, _≤_}
 use native.Mathlib.Omega.{arith}
 use lib.ListN.{length, drop}
-use Rattle.line.specs.Lines.{linesOf}
-use Rattle.line.proofs.Basics.{via}
+use Rattle.cuts.specs.Lines.{linesOf}
+use Rattle.promise.proofs.Basics.{via}
 use Rattle.line.proofs.LentIsRight.{read-is}
 use Rattle.counts.specs.Counts.{lineNumber}
 use Rattle.image.specs.Private.Walk.{factsFrom, start}

@@ -4,9 +4,9 @@ use mathlib.Core.Bool.{true, false}
 use Prim.Native.Nat.{_+_}
 use lib.ListN.{getD, drop, drop-of-length-le}
 use borrow.Author.Tests.{eq-eqb, ne-eqb}
-use Rattle.line.specs.Lines.{crLf}
+use Rattle.cuts.specs.Lines.{crLf}
 use Rattle.line.specs.Lent.{endingOf}
-use Rattle.line.proofs.Basics.{via, drop-at1, at0}
+use Rattle.promise.proofs.Basics.{via, drop-at1, at0}
 use borrow.Author.Needs.{needs}
 use Rattle.line.proofs.scan.end_at.Statement.{statement}
 use Rattle.line.proofs.scan.end_at.Tie as tie

@@ -6,7 +6,7 @@ use lib.ListN.{getD}
 use borrow.Author.Tests.{lt-ltb, le-ltb}
 use Rattle.line.specs.Digits.{digitBy, isDigit}
 use Rattle.line.specs.Private.Quick.{endsRun}
-use Rattle.line.proofs.Basics.{via}
+use Rattle.promise.proofs.Basics.{via}
 use borrow.Author.Needs.{needs}
 use Rattle.line.proofs.usual.ends_run.Statement.{statement}
 use Rattle.line.proofs.usual.ends_run.Tie as tie

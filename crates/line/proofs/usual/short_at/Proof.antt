@@ -1,7 +1,7 @@
 -- The digits end where the line does. Assumes nothing.
 use Prim.Native.Nat.{_+_}
 use native.Mathlib.Omega.{arith}
-use Rattle.line.proofs.Basics.{via}
+use Rattle.promise.proofs.Basics.{via}
 use Rattle.line.proofs.Taking.{usual-here}
 use borrow.Author.Needs.{needs}
 use Rattle.line.proofs.usual.short_at.Statement.{statement}

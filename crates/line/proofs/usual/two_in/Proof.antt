@@ -1,5 +1,5 @@
 -- What the tests say is what reading asks. Assumes nothing.
-use Rattle.line.proofs.Basics.{via}
+use Rattle.promise.proofs.Basics.{via}
 use Rattle.line.proofs.Taking.{two-taken}
 use mathlib.Core.Path.{_∙_}
 use borrow.Author.Needs.{needs}

@@ -1,5 +1,5 @@
 -- By the test of the banks. Assumes nothing.
-use Rattle.line.proofs.Basics.{via}
+use Rattle.promise.proofs.Basics.{via}
 use Rattle.session.specs.Stages.{banksDoneOf}
 use borrow.Author.Needs.{needs}
 use Rattle.session.proofs.Session.banks_done.Statement.{statement}

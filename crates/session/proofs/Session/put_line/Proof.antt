@@ -1,5 +1,5 @@
 -- By the reading of the line. Assumes nothing.
-use Rattle.line.proofs.Basics.{via}
+use Rattle.promise.proofs.Basics.{via}
 use Rattle.session.specs.Lines.{putLineOf, dueOf}
 use borrow.Author.Needs.{needs}
 use Rattle.session.proofs.Session.put_line.Statement.{statement}

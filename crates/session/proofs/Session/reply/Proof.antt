@@ -1,7 +1,7 @@
 -- By the stage that is held, then by the state; the stages are handed what they use of a state that passed. Assumes nothing.
 use mathlib.Core.Path.{_∙_, ap}
 use mathlib.Core.Bool.{true, false}
-use Rattle.line.proofs.Basics.{via}
+use Rattle.promise.proofs.Basics.{via}
 use Rattle.session.specs.Reply.{repliedOf}
 use Rattle.session.proofs.Laws.{ready, when-ended, when-open}
 use borrow.Author.Needs.{needs}

@@ -1,6 +1,6 @@
 -- By what 23 to 28 come to. Assumes nothing.
 use mathlib.Core.Path.{_∙_, ap}
-use Rattle.line.proofs.Basics.{via}
+use Rattle.promise.proofs.Basics.{via}
 use Rattle.session.specs.Lines.{putLineOf}
 use Rattle.session.specs.Stages.{revisionDoneOf, fitHeld, fitDoneOf}
 use borrow.Author.Needs.{needs}

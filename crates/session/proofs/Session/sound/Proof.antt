@@ -1,6 +1,6 @@
 -- The same tests in the same order. Assumes nothing.
 use mathlib.Core.Path.{_∙_}
-use Rattle.line.proofs.Basics.{via}
+use Rattle.promise.proofs.Basics.{via}
 use Rattle.session.specs.Sound.{stateTests, soundOf}
 use Rattle.session.proofs.Tests.{all-not, all-last1, all-next}
 use borrow.Author.Needs.{needs}

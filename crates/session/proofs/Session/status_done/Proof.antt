@@ -1,6 +1,6 @@
 -- By what the status comes to. Assumes nothing.
 use mathlib.Core.Path.{_∙_, ap}
-use Rattle.line.proofs.Basics.{via}
+use Rattle.promise.proofs.Basics.{via}
 use Rattle.session.specs.Moves.{putOf}
 use Rattle.session.specs.Stages.{statusDoneOf, polledDoneOf}
 use borrow.Author.Needs.{needs}

@@ -1,6 +1,6 @@
 -- The same tests in the same order, then what the call ensures. Assumes nothing.
 use borrow.Author.Tests.{eq-eqb, ne-eqb}
-use Rattle.line.proofs.Basics.{via}
+use Rattle.promise.proofs.Basics.{via}
 use Rattle.session.specs.Lines.{tookOf}
 use borrow.Author.Needs.{needs}
 use Rattle.session.proofs.Session.took.Statement.{statement}

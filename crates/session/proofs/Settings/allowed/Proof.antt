@@ -1,6 +1,6 @@
 -- The same tests in the same order. Assumes nothing.
 use borrow.Author.Tests.{le-leb, lt-leb}
-use Rattle.line.proofs.Basics.{via}
+use Rattle.promise.proofs.Basics.{via}
 use Rattle.session.specs.Sound.{all, settingTests, allowedOf}
 use borrow.Author.Needs.{needs}
 use Rattle.session.proofs.Settings.allowed.Statement.{statement}

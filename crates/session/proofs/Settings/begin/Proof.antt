@@ -1,6 +1,6 @@
 -- By the settings, and what the file's check says. Assumes nothing.
 use mathlib.Core.Path.{_∙_}
-use Rattle.line.proofs.Basics.{via}
+use Rattle.promise.proofs.Basics.{via}
 use Rattle.session.specs.Begin.{answeredOf}
 use Rattle.session.proofs.Laws.{begin-answered, begin-not}
 use borrow.Author.Needs.{needs}

@@ -5,11 +5,11 @@ use Prim.Native.Nat.{_+_, _-_, _≤_}
 use native.Mathlib.Omega.{arith}
 use lib.ListN.{length, drop}
 use borrow.Author.Tests.{eq-eqb, ne-eqb}
-use Rattle.line.specs.Private.Quick.{lineEnds}
-use Rattle.line.proofs.BlockCounts.{ends-lf, ends-other, ends-past}
+use Rattle.cuts.specs.Private.Blocks.{lineEnds}
+use Rattle.cuts.proofs.BlockCounts.{ends-lf, ends-other, ends-past}
 use borrow.Author.Needs.{needs}
-use Rattle.line.proofs.blocks.ends_in.Statement.{statement}
-use Rattle.line.proofs.blocks.ends_in.Tie as tie
+use Rattle.cuts.proofs.blocks.ends_in.Statement.{statement}
+use Rattle.cuts.proofs.blocks.ends_in.Tie as tie
 
 abbrev Inv-loop : tie.InvT-loop
 Inv-loop t count₀ i₀ count i = (lineEnds t ≡ count + lineEnds (drop i t)) × (count ≤ i) × (i ≤ length t)

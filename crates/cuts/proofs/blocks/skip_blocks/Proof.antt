@@ -4,13 +4,13 @@ use Prim.Native.Nat.{ℕ, _+_, _-_, _≤_}
 use native.Mathlib.Omega.{arith}
 use lib.ListN.{length, take, drop, length-take}
 use borrow.Author.Tests.{leb-true}
-use Rattle.line.specs.Lines.{placeOf}
-use Rattle.line.specs.Private.Quick.{lineEnds}
-use Rattle.line.proofs.Basics.{via}
-use Rattle.line.proofs.BlockCounts.{skip-block}
+use Rattle.cuts.specs.Lines.{placeOf}
+use Rattle.cuts.specs.Private.Blocks.{lineEnds}
+use Rattle.promise.proofs.Basics.{via}
+use Rattle.cuts.proofs.BlockCounts.{skip-block}
 use borrow.Author.Needs.{needs}
-use Rattle.line.proofs.blocks.skip_blocks.Statement.{statement}
-use Rattle.line.proofs.blocks.skip_blocks.Tie as tie
+use Rattle.cuts.proofs.blocks.skip_blocks.Statement.{statement}
+use Rattle.cuts.proofs.blocks.skip_blocks.Tie as tie
 
 abbrev Inv-loop : tie.InvT-loop
 Inv-loop s at lines i₀ left₀ i left = at + placeOf lines (drop at s) ≡ i + placeOf left (drop i s)

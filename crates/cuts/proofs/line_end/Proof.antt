@@ -4,11 +4,11 @@ use Prim.Native.Nat.{_+_, _-_}
 use native.Mathlib.Omega.{arith}
 use lib.ListN.{length, drop}
 use borrow.Author.Tests.{eq-eqb, ne-eqb}
-use Rattle.line.specs.Lines.{lineSkip}
-use Rattle.line.proofs.Cuts.{skip-lf, skip-on, skip-past}
+use Rattle.cuts.specs.Lines.{lineSkip}
+use Rattle.cuts.proofs.FirstLine.{skip-lf, skip-on, skip-past}
 use borrow.Author.Needs.{needs}
-use Rattle.line.proofs.scan.line_end.Statement.{statement}
-use Rattle.line.proofs.scan.line_end.Tie as tie
+use Rattle.cuts.proofs.line_end.Statement.{statement}
+use Rattle.cuts.proofs.line_end.Tie as tie
 
 abbrev Inv-loop : tie.InvT-loop
 Inv-loop s at i₀ i = at + lineSkip (drop at s) ≡ i + lineSkip (drop i s)

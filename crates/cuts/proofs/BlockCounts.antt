@@ -7,9 +7,9 @@ use native.Mathlib.Omega.{arith}
 use lib.ListN.{length, getD, take, drop, length-drop, drop-of-length-le}
 use lib.Seq.{drop-drop}
 use lib.Dec.{eqb}
-use Rattle.line.specs.Lines.{lineSkip, placeOf}
-use Rattle.line.specs.Private.Quick.{lineEnds}
-use Rattle.line.proofs.Basics.{split, drop-at1}
+use Rattle.cuts.specs.Lines.{lineSkip, placeOf}
+use Rattle.cuts.specs.Private.Blocks.{lineEnds}
+use Rattle.promise.proofs.Basics.{split, drop-at1}
 
 -- ---- one byte on
 

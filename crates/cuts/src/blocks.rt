@@ -4,8 +4,8 @@ ghost use mathlib.Core.Path.{_≡_};
 ghost use lib.ListN.{length, drop};
 ghost use lib.Dec.{leb};
 ghost use Prim.Native.Nat.{_+_, _≤_};
-ghost use Rattle.line.specs.Lines.{placeOf};
-ghost use Rattle.line.specs.Private.Quick.{lineEnds};
+ghost use Rattle.cuts.specs.Lines.{placeOf};
+ghost use Rattle.cuts.specs.Private.Blocks.{lineEnds};
 
 // How many lines end in a block. The count is a byte, so that sixteen bytes are counted at once.
 fn ends_in(t: &[u8]) -> u8

@@ -5,10 +5,10 @@ use native.Mathlib.Omega.{arith}
 use lib.ListN.{length}
 use lib.Dec.{leb}
 use borrow.Author.Tests.{leb-true, leb-false, le-leb, lt-leb}
-use Rattle.line.proofs.Basics.{split}
+use Rattle.promise.proofs.Basics.{split}
 use borrow.Author.Needs.{needs}
-use Rattle.line.proofs.blocks.block_at.Statement.{statement}
-use Rattle.line.proofs.blocks.block_at.Tie as tie
+use Rattle.cuts.proofs.blocks.block_at.Statement.{statement}
+use Rattle.cuts.proofs.blocks.block_at.Tie as tie
 
 returns : tie.Need-returns
 returns c =
