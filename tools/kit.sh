@@ -57,15 +57,16 @@ run_c() { # PROGRAM [WORDS...]
     if [ "$(uname -m)" = x86_64 ]; then "$@"; else run_x86 "$@"; fi
 }
 
-# Builds the second program and its cases where they are missing or older than their sources.
+# Builds the second program, as a library and as a program, and its cases where a source is newer than the last time.
 build_second() {
     need rustc rustc || return 1
     mkdir -p target/tests
-    for program in second cases; do
-        if [ ! -x "target/tests/$program" ] || [ -n "$(find tests/second -name '*.rs' -newer "target/tests/$program")" ]; then
-            rustc --edition 2021 -O -o "target/tests/$program" "tests/second/$program.rs" || return 1
-        fi
-    done
+    if [ -e target/tests/second.built ] && [ -z "$(find tests/second -name '*.rs' -newer target/tests/second.built)" ]; then return 0; fi
+    : >target/tests/second.began
+    rustc --edition 2021 -O --crate-type rlib --crate-name second --out-dir target/tests tests/second/lib.rs &&
+        rustc --edition 2021 -O --crate-name by_hand --extern second=target/tests/libsecond.rlib -o target/tests/second tests/second/main.rs &&
+        rustc --edition 2021 -O -o target/tests/cases tests/second/cases.rs &&
+        mv target/tests/second.began target/tests/second.built
 }
 
 # Proves and builds a program of the house where target/ does not have it or has it from older sources. Its time is then that of

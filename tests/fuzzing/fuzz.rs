@@ -22,10 +22,6 @@ mod cases_verdicts;
 #[path = "../second/cases_wholes.rs"]
 mod cases_wholes;
 mod changes;
-// The second program with a way in for each of its answers: a copy that tests/fuzz makes.
-#[allow(dead_code)]
-#[path = "../../target/fuzz/second.rs"]
-mod second;
 
 use std::collections::BTreeMap;
 use std::env;
@@ -180,12 +176,12 @@ fn files_by_entries(plan: &Plan, files: &Tally, pecs: &Tally) -> io::Result<()> 
                     changed_text(&mut rng, text, other)
                 };
                 let ours = entries.ask(b'f', &text)?;
-                let theirs = second::ask_number(&text);
+                let theirs = second::number(&text);
                 files.compare(plan, &text, &[ours], &[theirs], format!("{theirs:2}"))?;
 
                 let bytes = some_bytes(&mut rng, &text);
                 let ours = entries.ask(b'p', &bytes)?;
-                let theirs = second::ask_pec(&bytes);
+                let theirs = second::pec(&bytes);
                 pecs.compare(plan, &bytes, &[ours], &[theirs], length_class(bytes.len()))?;
             }
         }
@@ -249,7 +245,7 @@ fn files_by_show(plan: &Plan, shows: &Tally) -> io::Result<()> {
             } else {
                 changed_text(&mut rng, &cases[place], &cases[other])
             };
-            let theirs = second::ask_show(&text);
+            let theirs = second::show(&text);
             let ours = output_of(plan, "target/bin/show", &text)?;
             let word = if theirs.starts_with("ok") {
                 " 0".to_string()
@@ -279,7 +275,7 @@ fn sessions_by_replay(plan: &Plan, replays: &Tally, worker: u64) -> io::Result<(
             } else {
                 case.clone()
             };
-            let theirs = second::ask_replay(&input);
+            let theirs = second::replay(&input);
             let ours = output_of(plan, "target/bin/replay", &input)?;
             replays.compare(plan, &input, &ours, theirs.as_bytes(), ending(&theirs))?;
         }

@@ -1,0 +1,26 @@
+//! "Numbers for a file".
+
+pub const SIZE: u8 = 1;
+pub const CHAR: u8 = 2;
+pub const PAIRS: u8 = 3;
+pub const LENGTH: u8 = 4;
+pub const CRC: u8 = 5;
+pub const FORM: u8 = 6;
+pub const COUNT: u8 = 7;
+pub const REVISION: u8 = 8;
+pub const DEVICE: u8 = 9;
+pub const BURN: u8 = 10;
+pub const SPOT: u8 = 11;
+pub const BEYOND: u8 = 12;
+pub const SAME: u8 = 13;
+
+/// A refusal: its number, and the line (0 for 1 and for 7 to 13).
+#[derive(Clone, Copy)]
+pub struct Refusal {
+    pub number: u8,
+    pub line: usize,
+}
+
+pub fn refuse_whole(number: u8) -> Refusal {
+    Refusal { number, line: 0 }
+}

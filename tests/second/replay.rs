@@ -1,0 +1,92 @@
+//! The dry run: its input taken apart, and what is printed of it.
+
+use crate::bus::{Host, Reply};
+use crate::bytes::lowest_first;
+use crate::file::Image;
+use crate::session::{begin, run, Settings};
+use crate::verdict::{Stop, DONE};
+
+const ROOM_FOR_FILE: usize = 65_600;
+const ROOM_FOR_REPLIES: usize = 200_000;
+const CUT_SHORT: &str = "cut short\n";
+const TOO_LONG: &str = "too long\n";
+
+/// What a dry run's input holds.
+struct DryRun<'a> {
+    settings: Settings,
+    file: &'a [u8],
+    replies: Vec<Reply<'a>>,
+}
+
+/// The first bytes and those behind them, if there are so many.
+fn split_at_if(bytes: &[u8], count: usize) -> Option<(&[u8], &[u8])> {
+    (count <= bytes.len()).then(|| bytes.split_at(count))
+}
+
+/// Takes a dry run's input apart, or gives the only line to print.
+fn parse_dry_run(input: &[u8]) -> Result<DryRun<'_>, &'static str> {
+    let (header, rest) = split_at_if(input, 8).ok_or(CUT_SHORT)?;
+    let file_length = lowest_first(&header[4..8]) as usize;
+    if file_length > ROOM_FOR_FILE {
+        return Err(TOO_LONG);
+    }
+    let (file, reply_bytes) = split_at_if(rest, file_length).ok_or(CUT_SHORT)?;
+    if reply_bytes.len() > ROOM_FOR_REPLIES {
+        return Err(TOO_LONG);
+    }
+    let settings = Settings {
+        step_1_wanted: header[0] != 0,
+        poll_limit: u16::from_le_bytes([header[1], header[2]]),
+        restore_cfg: header[3],
+    };
+    let replies = parse_replies(reply_bytes).ok_or(CUT_SHORT)?;
+    Ok(DryRun {
+        settings,
+        file,
+        replies,
+    })
+}
+
+/// The replies, each a kind byte, a length byte and the bytes; none if the last is cut short.
+fn parse_replies(mut rest: &[u8]) -> Option<Vec<Reply<'_>>> {
+    let mut replies = Vec::new();
+    while let Some((&kind, after_kind)) = rest.split_first() {
+        let (&length, after_length) = after_kind.split_first()?;
+        let (bytes, after_bytes) = split_at_if(after_length, usize::from(length))?;
+        replies.push(Reply { kind, bytes });
+        rest = after_bytes;
+    }
+    Some(replies)
+}
+
+pub fn replay(input: &[u8]) -> String {
+    match parse_dry_run(input) {
+        Ok(dry_run) => replay_parsed(&dry_run),
+        Err(only_line) => only_line.to_string(),
+    }
+}
+
+fn replay_parsed(dry_run: &DryRun) -> String {
+    match begin(&dry_run.settings, dry_run.file) {
+        Ok(image) => replay_accepted(dry_run, &image),
+        Err(refusal) => verdict_line(refusal.number, 0, refusal.line) + &count_line(0, false),
+    }
+}
+
+fn replay_accepted(dry_run: &DryRun, image: &Image) -> String {
+    let mut host = Host::new(&dry_run.replies);
+    let how_it_stands = match run(&mut host, &dry_run.settings, image) {
+        Ok(()) => verdict_line(DONE, 0, 0),
+        Err(Stop::Verdict { number, config }) => verdict_line(number, config, 0),
+        Err(Stop::Waiting) => "waiting\n".to_string(),
+    };
+    host.log + &how_it_stands + &count_line(host.count, host.burn)
+}
+
+fn verdict_line(number: u8, config: usize, line: usize) -> String {
+    format!("verdict {number} config {config} line {line}\n")
+}
+
+fn count_line(count: u32, burn: bool) -> String {
+    format!("count {count} burn {}\n", u8::from(burn))
+}

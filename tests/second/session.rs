@@ -1,0 +1,136 @@
+//! "The session": the settings, the begin, and the requests in order.
+
+use crate::bus::{Host, READ_IDENTITY, READ_REVISION, REGISTER_DATA};
+use crate::bytes::lowest_first;
+use crate::file::{check_file, Image};
+use crate::kind::Kind;
+use crate::refusal::{refuse_whole, Refusal};
+use crate::verdict::{
+    end, end_if, Stop, BANKS, COUNTER, FLAG, IDENTITY, KIND, MISMATCH, OLD, PLACES, PROGRAM,
+};
+
+const SETTING: u8 = 14;
+
+pub struct Settings {
+    pub step_1_wanted: bool,
+    pub poll_limit: u16,
+    pub restore_cfg: u8,
+}
+
+impl Settings {
+    fn allowed(&self) -> bool {
+        let reserved = [0xC5, 0xC6, 0xC7, 0xE7, 0xAD, 0xAE];
+        (1..=10_000).contains(&self.poll_limit) && !reserved.contains(&self.restore_cfg)
+    }
+}
+
+/// "One operation checks the settings, checks the file and begins. Settings come first."
+pub fn begin(settings: &Settings, file: &[u8]) -> Result<Image, Refusal> {
+    if settings.allowed() {
+        check_file(file)
+    } else {
+        Err(refuse_whole(SETTING))
+    }
+}
+
+/// Steps 1 to 6, from top to bottom. Coming to the end is DONE.
+pub fn run(host: &mut Host, settings: &Settings, image: &Image) -> Result<(), Stop> {
+    if settings.step_1_wanted {
+        step_1(host)?;
+    }
+    step_2(host, image)?;
+    step_3(host, image)?;
+    step_4(host, settings.poll_limit)?;
+    step_5(host, image.configs)?;
+    step_6(host, settings.restore_cfg, image)
+}
+
+fn step_1(host: &mut Host) -> Result<(), Stop> {
+    host.select([0xA2, 0x00])?;
+    let read = host.read_register()?;
+    host.write(
+        REGISTER_DATA,
+        &[read[0] & !(1 << 5), read[1], read[2], read[3]],
+    )?;
+    host.write(0xE7, &[0x02, 0x00])
+}
+
+fn step_2(host: &mut Host, image: &Image) -> Result<(), Stop> {
+    host.select([0x35, 0x00])?;
+    let counter = lowest_first(host.read_register()?);
+    let identity = lowest_first(host.read_block(READ_IDENTITY)?);
+    host.select([0x87, 0xBD])?;
+    let flag = lowest_first(host.read_register()?);
+    let revision = lowest_first(host.read_block(READ_REVISION)?);
+
+    // "23 to 28 are tried after the AE reply, in order."
+    end_if(counter > 28, COUNTER)?;
+    end_if(identity != image.identity(), IDENTITY)?;
+    let wanted = match kind_wanted(flag, counter) {
+        Some(kind) => kind,
+        None => return end(FLAG),
+    };
+    end_if(revision >> 24 < 0x06, OLD)?;
+    end_if(image.kind != wanted, KIND)?;
+    end_if(image.configs > counter as usize, PLACES)
+}
+
+/// "Kind wanted".
+fn kind_wanted(flag: u32, counter: u32) -> Option<Kind> {
+    if flag == 0xFFFE_0001 || counter == 28 {
+        Some(Kind::Production)
+    } else if flag == 0 && counter < 28 {
+        Some(Kind::Legacy)
+    } else {
+        None
+    }
+}
+
+/// "The write lines 5 to n, as they stand; the PEC sent is the line's last byte."
+fn step_3(host: &mut Host, image: &Image) -> Result<(), Stop> {
+    for number in 5..=image.lines.len() {
+        let line = image.line(number);
+        if line.is_burn() {
+            host.burn = true;
+        }
+        host.write_with(line.command, &line.data, line.crc)?;
+    }
+    Ok(())
+}
+
+fn step_4(host: &mut Host, poll_limit: u16) -> Result<(), Stop> {
+    host.select([0x7E, 0x00])?;
+    let mut status = 0;
+    for _ in 0..poll_limit {
+        status = lowest_first(host.read_register()?);
+        if status & 1 == 1 {
+            break;
+        }
+    }
+    end_if(status & 0b11_1111 != 0b00_0001, PROGRAM)
+}
+
+fn step_5(host: &mut Host, configs: usize) -> Result<(), Stop> {
+    host.select([0x7F, 0x00])?;
+    let banks = lowest_first(host.read_register()?);
+    let as_they_should_be = |bank: usize| {
+        let shown = banks >> (4 * bank) & 0b1111;
+        shown == if bank < configs { 0b0001 } else { 0b0000 }
+    };
+    end_if(!(0..8).all(as_they_should_be), BANKS)
+}
+
+fn step_6(host: &mut Host, restore_cfg: u8, image: &Image) -> Result<(), Stop> {
+    for config in 0..image.configs {
+        host.write(restore_cfg, &[image.identifier(config)])?;
+        host.select([0x94, 0x00])?;
+        let crc = lowest_first(host.read_register()?);
+        if crc != image.configuration_crc(config) {
+            return Err(Stop::Verdict {
+                number: MISMATCH,
+                config,
+            });
+        }
+    }
+    Ok(())
+}
