@@ -57,16 +57,38 @@ run_c() { # PROGRAM [WORDS...]
     if [ "$(uname -m)" = x86_64 ]; then "$@"; else run_x86 "$@"; fi
 }
 
-# Builds the second program, as a library and as a program, and its cases where a source is newer than the last time.
-build_second() {
+# The words by which run_c starts a program, as x86_words.
+c_words() { [ "$(uname -m)" = x86_64 ] || x86_words; }
+
+# Compiles a library or a program of the outside judges, which finds the libraries that are compiled already.
+compile_judge() { # OPTIONS... SOURCE
+    rustc --edition 2021 -O -L target/tests "$@"
+}
+
+# Builds the second program, the cases and the driver that compares: all of them where a source is newer than the last time.
+build_judge() {
     need rustc rustc || return 1
     mkdir -p target/tests
-    if [ -e target/tests/second.built ] && [ -z "$(find tests/second -name '*.rs' -newer target/tests/second.built)" ]; then return 0; fi
-    : >target/tests/second.began
-    rustc --edition 2021 -O --crate-type rlib --crate-name second --out-dir target/tests tests/second/lib.rs &&
-        rustc --edition 2021 -O --crate-name by_hand --extern second=target/tests/libsecond.rlib -o target/tests/second tests/second/main.rs &&
-        rustc --edition 2021 -O -o target/tests/cases tests/second/cases.rs &&
-        mv target/tests/second.began target/tests/second.built
+    if [ -e target/tests/judge.built ] &&
+        [ -z "$(find tests/second tests/cases tests/judge -name '*.rs' -newer target/tests/judge.built)" ]; then return 0; fi
+    : >target/tests/judge.began
+    compile_judge --crate-type rlib --crate-name second --out-dir target/tests tests/second/lib.rs &&
+        compile_judge --crate-type rlib --crate-name cases --out-dir target/tests tests/cases/lib.rs &&
+        compile_judge --crate-name second_by_hand --extern second -o target/tests/second tests/second/main.rs &&
+        compile_judge --crate-name judge --extern second --extern cases -o target/tests/judge tests/judge/main.rs &&
+        mv target/tests/judge.began target/tests/judge.built
+}
+
+# Links the C driver of the two entries with the delivered archive.
+build_entries() {
+    mkdir -p target/tests
+    { rt staticlib loader && link_c target/tests/entries tests/judge/entries.c target/staticlib/libloader.a; } >target/tests/entries.log 2>&1 ||
+        { cat target/tests/entries.log; return 1; }
+}
+
+# Runs the driver, which starts the delivered programs by these words.
+run_judge() { # WORDS...
+    JUDGE_X86=$(x86_words) JUDGE_C=$(c_words) target/tests/judge "$@"
 }
 
 # Proves and builds a program of the house where target/ does not have it or has it from older sources. Its time is then that of

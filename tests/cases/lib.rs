@@ -1,0 +1,20 @@
+//! The cases on which the delivered programs are compared with the second program: files, dry runs
+//! of sessions, and tidy examples. The same seed gives the same cases.
+//!
+//! They share nothing with either side: they have their own PEC and their own regulator.
+
+mod device;
+pub mod draft;
+mod ending;
+pub mod examples;
+mod files;
+pub mod line;
+mod list;
+pub mod random;
+mod sessions;
+pub mod text;
+
+pub use ending::Ending;
+pub use files::files;
+pub use list::Case;
+pub use sessions::sessions;

@@ -1,0 +1,85 @@
+//! The bytes of single lines.
+
+use crate::random::Rng;
+
+pub const HEADER: u8 = 0x49;
+pub const WRITE: u8 = 0x00;
+pub const ADDRESS: u8 = 0xC0;
+
+/// The burn's command and data.
+pub const BURN: (u8, [u8; 2]) = (0xE7, [0x08, 0x00]);
+
+/// The packet error code, whole bytes shifted by the polynomial 107.
+pub fn pec(bytes: &[u8]) -> u8 {
+    bytes.iter().fold(0, |before, byte| {
+        let mut value = u32::from(before ^ byte) << 8;
+        for place in (8..16).rev() {
+            if value >> place & 1 == 1 {
+                value ^= 0x107 << (place - 8);
+            }
+        }
+        value as u8
+    })
+}
+
+/// A line's bytes, with right length byte and CRC.
+pub fn line(tag: u8, address: u8, command: u8, data: &[u8]) -> Vec<u8> {
+    let mut bytes = vec![tag, data.len() as u8 + 3, address, command];
+    bytes.extend_from_slice(data);
+    bytes.push(pec(&bytes[2..]));
+    bytes
+}
+
+pub fn header(command: u8, data: &[u8]) -> Vec<u8> {
+    line(HEADER, ADDRESS, command, data)
+}
+
+pub fn write(command: u8, data: &[u8]) -> Vec<u8> {
+    line(WRITE, ADDRESS, command, data)
+}
+
+pub fn burn() -> Vec<u8> {
+    write(BURN.0, &BURN.1)
+}
+
+/// Two-byte data that the session itself also sends with C7 or E7.
+const FAMILIAR: [[u8; 2]; 8] = [
+    [0xA2, 0x00],
+    [0x35, 0x00],
+    [0x87, 0xBD],
+    [0x7E, 0x00],
+    [0x7F, 0x00],
+    [0x94, 0x00],
+    [0x02, 0x00],
+    [0x00, 0x08],
+];
+
+/// A write line that is no burn.
+pub fn random_write(rng: &mut Rng) -> Vec<u8> {
+    match rng.below(10) {
+        0..=4 => {
+            let data = if rng.once_in(4) {
+                rng.pick(&FAMILIAR).to_vec()
+            } else {
+                rng.bytes(2)
+            };
+            write(0xC7, &data)
+        }
+        5 => random_e7(rng),
+        6 | 7 => write(0xC5, &rng.bytes(4)),
+        _ => write(0xC6, &rng.bytes(4)),
+    }
+}
+
+fn random_e7(rng: &mut Rng) -> Vec<u8> {
+    loop {
+        let data = if rng.once_in(2) {
+            rng.pick(&FAMILIAR).to_vec()
+        } else {
+            rng.bytes(2)
+        };
+        if data != BURN.1 {
+            return write(BURN.0, &data);
+        }
+    }
+}

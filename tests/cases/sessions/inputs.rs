@@ -1,0 +1,147 @@
+//! Inputs of dry runs that are cut short or too long, or just not.
+
+use super::Sessions;
+use crate::device::{input, reply_bytes, Reply, Settings};
+use crate::draft::Draft;
+
+const ROOM_FOR_FILE: usize = 65_600;
+const ROOM_FOR_REPLIES: usize = 200_000;
+const FINE: Settings = Settings {
+    step_1: 1,
+    poll_limit: 10,
+    restore_cfg: 0xF2,
+};
+const BAD: Settings = Settings {
+    step_1: 1,
+    poll_limit: 0,
+    restore_cfg: 0xF2,
+};
+
+impl Sessions {
+    pub(super) fn input_cases(&mut self) {
+        self.cut_headers_and_files();
+        self.cut_replies();
+        self.long_files();
+        self.long_replies();
+    }
+
+    fn fresh_input(&mut self) -> (Draft, Vec<u8>) {
+        let session = self.small_session();
+        let file = self.file(&session.draft);
+        let bytes = input(session.settings, &file, &session.replies());
+        (session.draft, bytes)
+    }
+
+    fn cut_headers_and_files(&mut self) {
+        for count in 0..8 {
+            let (_, mut bytes) = self.fresh_input();
+            bytes.truncate(count);
+            self.put_bytes(&format!("cutshort-header-{count}"), &bytes);
+        }
+        for settings in [FINE, BAD] {
+            let (draft, _) = self.fresh_input();
+            let file = self.file(&draft);
+            let whole = input(settings, &file, &[]);
+            let inside = self.rng.from_to(9, whole.len() - 2);
+            for count in [8, 9, inside, whole.len() - 1] {
+                self.put_bytes(&format!("cutshort-file-{count}"), &whole[..count]);
+            }
+        }
+    }
+
+    fn cut_replies(&mut self) {
+        let tails: [(&str, &[u8]); 5] = [
+            ("kind-only", &[1]),
+            ("no-bytes", &[1, 5]),
+            ("one-byte-less", &[1, 5, 1, 2, 3, 4]),
+            ("of-255", &[0, 255, 1]),
+            ("of-one", &[9, 1]),
+        ];
+        for (label, tail) in tails {
+            let (_, done) = self.fresh_input();
+            self.put_bytes(
+                &format!("cutshort-after-done-{label}"),
+                &[&done[..], tail].concat(),
+            );
+            let (draft, _) = self.fresh_input();
+            let file = self.file(&draft);
+            for settings in [FINE, BAD] {
+                let first = input(settings, &file, &[]);
+                self.put_bytes(
+                    &format!("cutshort-first-{label}"),
+                    &[&first[..], tail].concat(),
+                );
+            }
+        }
+    }
+
+    fn long_files(&mut self) {
+        let header = |settings: Settings, length: u32| {
+            let mut bytes = input(settings, b"", &[]);
+            bytes[4..8].copy_from_slice(&length.to_le_bytes());
+            bytes
+        };
+        for settings in [FINE, BAD] {
+            let room = ROOM_FOR_FILE as u32;
+            for length in [room + 1, 70_000, 0x0100_0000, 0xFFFF_FFFF] {
+                let label = format!("toolong-file-{length}-missing");
+                self.put_bytes(&label, &header(settings, length));
+            }
+            self.put_bytes("cutshort-file-65600-missing", &header(settings, room));
+            let number = if settings.poll_limit == 0 { 14 } else { 1 };
+            let full = input(settings, &vec![b'\n'; ROOM_FOR_FILE], &[]);
+            self.put_bytes(&format!("want{number}at0-file-65600"), &full);
+            let over = input(settings, &vec![b'\n'; ROOM_FOR_FILE + 1], &[]);
+            self.put_bytes("toolong-file-65601", &over);
+        }
+        let over = input(FINE, &vec![b'0'; ROOM_FOR_FILE + 1], &[]);
+        let over_and_cut = [&over[..], &[1]].concat();
+        self.put_bytes("toolong-file-and-cut-reply", &over_and_cut);
+    }
+
+    fn long_replies(&mut self) {
+        for (want, size) in [
+            ("want0", ROOM_FOR_REPLIES),
+            ("toolong", ROOM_FOR_REPLIES + 1),
+        ] {
+            let session = self.small_session();
+            let mut replies = session.replies();
+            replies.extend(replies_of_size(size - reply_bytes(&replies).len()));
+            assert_eq!(reply_bytes(&replies).len(), size);
+            let file = self.file(&session.draft);
+            let bytes = input(session.settings, &file, &replies);
+            self.put_bytes(&format!("{want}-replies-{size}"), &bytes);
+            let cut = [&bytes[..], &[1, 9]].concat();
+            self.put_bytes(&format!("toolong-replies-{}-cut", size + 2), &cut);
+        }
+        let session = self.small_session();
+        let file = self.file(&session.draft);
+        for settings in [session.settings, BAD] {
+            let mut bytes = input(settings, &file, &[]);
+            bytes.extend([1, 0].repeat(ROOM_FOR_REPLIES / 2 - 1));
+            bytes.extend([1, 1]);
+            self.put_bytes("cutshort-replies-200000", &bytes);
+            bytes.extend([1]);
+            self.put_bytes("toolong-replies-200001", &bytes);
+        }
+    }
+}
+
+/// Replies that take so many bytes in a dry run's input, which are at least two.
+fn replies_of_size(mut size: usize) -> Vec<Reply> {
+    let most = 2 + 255;
+    let mut replies = Vec::new();
+    while size > 0 {
+        let take = if size <= most {
+            size
+        } else {
+            most.min(size - 2)
+        };
+        replies.push(Reply {
+            kind: 0,
+            bytes: vec![7; take - 2],
+        });
+        size -= take;
+    }
+    replies
+}

@@ -1,0 +1,172 @@
+//! NACK, SHAPE and PEC at every kind of request.
+
+use super::{Session, Sessions};
+use crate::device::{replies_of, Reply, Step};
+use crate::line::pec;
+
+impl Sessions {
+    pub(super) fn reply_faults(&mut self) {
+        let early = ["setup-select", "setup", "setup-back", "setup-apply"];
+        let device = [
+            "counter-select",
+            "counter",
+            "identity",
+            "flag-select",
+            "flag",
+            "revision",
+        ];
+        let late = ["status-select", "poll-1", "poll-3", "banks-select", "banks"];
+        let end = ["restore-0", "crc-select-0", "crc-0"];
+        for name in early.into_iter().chain(device).chain(late).chain(end) {
+            let session = self.session_with_three_polls(1);
+            self.faults_at(&session, name);
+        }
+        for name in ["restore-1", "crc-select-1", "crc-1"] {
+            let session = self.session_with_three_polls(2);
+            self.faults_at(&session, name);
+        }
+        for turn in 0..5 {
+            let session = self.session_with_three_polls(1);
+            let draft = &session.draft;
+            let middle = self.rng.from_to(6, draft.n() - 1);
+            let number = [5, 6, middle, draft.n() - 1, draft.n()][turn];
+            self.faults_at(&session, &format!("line-{number}"));
+        }
+    }
+
+    pub(super) fn session_with_three_polls(&mut self, k: usize) -> Session {
+        let kind = self.rng.kind();
+        let mut session = self.session(kind, k);
+        session.settings.step_1 = 1;
+        session.settings.poll_limit = self.rng.pick(&[3, 7, 10_000]);
+        session.device.statuses = vec![0x00, 0x10, 0x01];
+        session
+    }
+
+    fn faults_at(&mut self, session: &Session, name: &str) {
+        let steps = session.steps();
+        let place = steps
+            .iter()
+            .position(|step| step.name == name)
+            .expect("a step's name");
+        for (verdict, fault, reply) in self.faulty_replies(&steps[place]) {
+            let mut replies = replies_of(&steps);
+            replies[place] = reply;
+            self.with_any_tail(&mut replies, place);
+            self.put_replies(
+                &format!("want{verdict}-{fault}-at-{name}"),
+                session,
+                &replies,
+            );
+        }
+    }
+
+    pub(super) fn faulty_replies(&mut self, step: &Step) -> Vec<(u8, &'static str, Reply)> {
+        let mut faults = match step.read {
+            None => self.faulty_write_replies(),
+            Some(command) => self.faulty_read_replies(command, &step.reply.bytes),
+        };
+        let good = &step.reply.bytes;
+        faults.push((
+            20,
+            "nack",
+            Reply {
+                kind: 0,
+                bytes: Vec::new(),
+            },
+        ));
+        faults.push((
+            21,
+            "kind-2",
+            Reply {
+                kind: 2,
+                bytes: good.clone(),
+            },
+        ));
+        let kind = self.rng.from_to(3, 255) as u8;
+        faults.push((
+            21,
+            "kind-above",
+            Reply {
+                kind,
+                bytes: good.clone(),
+            },
+        ));
+        faults
+    }
+
+    fn faulty_write_replies(&mut self) -> Vec<(u8, &'static str, Reply)> {
+        let some = self.rng.from_to(1, 8);
+        vec![
+            (
+                20,
+                "nack-with-bytes",
+                Reply {
+                    kind: 0,
+                    bytes: self.rng.bytes(some),
+                },
+            ),
+            (21, "one-byte", Reply::done(vec![0])),
+            (21, "five-bytes", Reply::register(1)),
+            (
+                21,
+                "kind-255-with-bytes",
+                Reply {
+                    kind: 255,
+                    bytes: self.rng.bytes(some),
+                },
+            ),
+        ]
+    }
+
+    fn faulty_read_replies(&mut self, command: u8, good: &[u8]) -> Vec<(u8, &'static str, Reply)> {
+        let last = good.len() - 1;
+        let (data, changed_bit) = (&good[..last], 1 << self.rng.below(8));
+        let mut wrong_pec = good.to_vec();
+        wrong_pec[last] ^= changed_bit;
+        let mut wrong_data = good.to_vec();
+        wrong_data[last - 1] ^= changed_bit;
+        let without_read_address = [&[0xC0, command], data].concat();
+        let mut pec_without = good.to_vec();
+        pec_without[last] = pec(&without_read_address);
+
+        let mut faults = vec![
+            (
+                20,
+                "nack-with-good-bytes",
+                Reply {
+                    kind: 0,
+                    bytes: good.to_vec(),
+                },
+            ),
+            (21, "no-bytes", Reply::done(Vec::new())),
+            (21, "without-pec", Reply::done(data.to_vec())),
+            (
+                21,
+                "short",
+                Reply::sealed(command, data[..last - 1].to_vec()),
+            ),
+            (21, "long", Reply::sealed(command, [data, &[0]].concat())),
+            (21, "very-long", Reply::done(self.rng.bytes(255))),
+            (22, "wrong-pec", Reply::done(wrong_pec)),
+            (22, "wrong-data", Reply::done(wrong_data)),
+            (22, "pec-without-c1", Reply::done(pec_without)),
+        ];
+        if command != 0xC5 {
+            for (name, count) in [
+                ("block-3", 3),
+                ("block-5", 5),
+                ("block-0", 0),
+                ("block-84", 0x84),
+            ] {
+                let block = [&[count], &data[1..]].concat();
+                faults.push((21, name, Reply::sealed(command, block)));
+            }
+            let mut both = good.to_vec();
+            both[0] = 6;
+            faults.push((21, "block-6-and-pec", Reply::done(both)));
+            faults.push((21, "no-block", Reply::sealed(command, data[1..].to_vec())));
+        }
+        faults
+    }
+}

@@ -1,0 +1,211 @@
+//! Random changes of a case: of a file's text, and of a dry run's input.
+
+use cases::line::pec;
+use cases::random::Rng;
+use cases::text::capital;
+
+/// No text gets longer: far more than a file may have, and less than the C side has room for.
+const LONGEST: usize = 200_000;
+
+/// The text with one to three changes.
+pub fn changed_text(rng: &mut Rng, text: &[u8], other: &[u8]) -> Vec<u8> {
+    let mut text = text.to_vec();
+    for _ in 0..rng.from_to(1, 3) {
+        change_once(rng, &mut text, other);
+    }
+    text.truncate(LONGEST);
+    text
+}
+
+fn change_once(rng: &mut Rng, text: &mut Vec<u8>, other: &[u8]) {
+    if text.is_empty() {
+        text.push(rng.byte());
+    }
+    let place = rng.below(text.len());
+    match rng.below(14) {
+        0 => text[place] ^= 1 << rng.below(8),
+        1 => text[place] = rng.byte(),
+        2 => text[place] = rng.pick(b"0123456789ABCDEFabcdef"),
+        3 => text.truncate(place),
+        4 => {
+            let end = (place + rng.from_to(1, 40)).min(text.len());
+            text.drain(place..end);
+        }
+        5 => joined_lines(rng, text),
+        6 => swapped_lines(rng, text),
+        7 => doubled_or_removed_line(rng, text),
+        8 => other_ends(text),
+        9 => small_letters(rng, text),
+        10 => text.insert(place, rng.pick(b"\r\n 0Gg")),
+        11 => spliced(rng, text, other),
+        _ => resealed(rng, text),
+    }
+}
+
+/// Where the lines of a text begin and end, their LF not counted.
+fn spans(text: &[u8]) -> Vec<(usize, usize)> {
+    let mut spans = Vec::new();
+    let mut start = 0;
+    for (place, &byte) in text.iter().enumerate() {
+        if byte == b'\n' {
+            spans.push((start, place));
+            start = place + 1;
+        }
+    }
+    if start < text.len() || spans.is_empty() {
+        spans.push((start, text.len()));
+    }
+    spans
+}
+
+/// One LF taken out, so that two lines are one.
+fn joined_lines(rng: &mut Rng, text: &mut Vec<u8>) {
+    let (_, end) = rng.pick(&spans(text));
+    if end < text.len() {
+        text.remove(end);
+    }
+}
+
+fn swapped_lines(rng: &mut Rng, text: &mut Vec<u8>) {
+    let spans = spans(text);
+    let (first, second) = (rng.below(spans.len()), rng.below(spans.len()));
+    let (low, high) = (first.min(second), first.max(second));
+    if low == high {
+        return;
+    }
+    let ((a, b), (c, d)) = (spans[low], spans[high]);
+    *text = [
+        &text[..a],
+        &text[c..d],
+        &text[b..c],
+        &text[a..b],
+        &text[d..],
+    ]
+    .concat();
+}
+
+fn doubled_or_removed_line(rng: &mut Rng, text: &mut Vec<u8>) {
+    let (start, end) = rng.pick(&spans(text));
+    let end = (end + 1).min(text.len());
+    let line = text[start..end].to_vec();
+    if rng.once_in(2) {
+        text.drain(start..end);
+    } else {
+        text.splice(start..start, line);
+    }
+}
+
+/// CR LF everywhere, or, where there is a CR, none.
+fn other_ends(text: &mut Vec<u8>) {
+    if text.contains(&b'\r') {
+        text.retain(|&byte| byte != b'\r');
+    } else {
+        *text = text
+            .iter()
+            .flat_map(|&byte| {
+                if byte == b'\n' {
+                    vec![b'\r', b'\n']
+                } else {
+                    vec![byte]
+                }
+            })
+            .collect();
+    }
+}
+
+fn small_letters(rng: &mut Rng, text: &mut [u8]) {
+    let (start, end) = if rng.once_in(2) {
+        (0, text.len())
+    } else {
+        rng.pick(&spans(text))
+    };
+    text[start..end].make_ascii_lowercase();
+}
+
+/// The beginning of this text and the end of another.
+fn spliced(rng: &mut Rng, text: &mut Vec<u8>, other: &[u8]) {
+    let (start, _) = rng.pick(&spans(text));
+    let (from, _) = rng.pick(&spans(other));
+    text.truncate(start);
+    text.extend_from_slice(&other[from..]);
+}
+
+/// One byte of a line changed and its CRC made right again, so that the fault lies deeper.
+fn resealed(rng: &mut Rng, text: &mut Vec<u8>) {
+    let spans = spans(text);
+    let number = if rng.once_in(3) {
+        rng.pick(&[0, 1, 11, 275, 289, spans.len() - 1])
+            .min(spans.len() - 1)
+    } else {
+        rng.below(spans.len())
+    };
+    let (start, end) = spans[number];
+    let end = if end > start && text[end - 1] == b'\r' {
+        end - 1
+    } else {
+        end
+    };
+    let mut bytes = match decoded(&text[start..end]) {
+        Some(bytes) if bytes.len() >= 5 => bytes,
+        _ => return,
+    };
+    let last = bytes.len() - 1;
+    let place = rng.below(last);
+    bytes[place] = match rng.below(3) {
+        0 => rng.byte(),
+        1 => bytes[place] ^ (1 << rng.below(8)),
+        _ => rng.pick(&[0x00, 0x08, 0x49, 0xAD, 0xAE, 0xC0, 0xC5, 0xC6, 0xC7, 0xE7]),
+    };
+    bytes[last] = pec(&bytes[2..last]);
+    text.splice(start..end, capital(&bytes));
+}
+
+fn decoded(digits: &[u8]) -> Option<Vec<u8>> {
+    let digits = std::str::from_utf8(digits).ok()?;
+    if digits.len() % 2 == 1 || !digits.is_ascii() {
+        return None;
+    }
+    (0..digits.len() / 2)
+        .map(|place| u8::from_str_radix(&digits[2 * place..2 * place + 2], 16).ok())
+        .collect()
+}
+
+/// A dry run's input with a change: of the settings, of the file in it, or of the replies.
+pub fn changed_input(rng: &mut Rng, input: &[u8]) -> Vec<u8> {
+    if input.len() < 9 {
+        return input.to_vec();
+    }
+    let length = input[4..8]
+        .iter()
+        .rev()
+        .fold(0, |n, &byte| n << 8 | usize::from(byte));
+    let behind = (8 + length).min(input.len());
+    let (settings, file, replies) = (&input[..4], &input[8..behind], &input[behind..]);
+    let (mut settings, mut file, mut replies) =
+        (settings.to_vec(), file.to_vec(), replies.to_vec());
+    match rng.below(8) {
+        0 => {
+            let place = rng.below(4);
+            settings[place] = rng.byte();
+        }
+        1 => file = changed_text(rng, &file, input),
+        2 => replies.truncate(rng.below(replies.len() + 1)),
+        _ if !replies.is_empty() => {
+            // The first replies are those that are judged; the others answer the write lines.
+            let bound = if rng.once_in(2) {
+                replies.len().min(48)
+            } else {
+                replies.len()
+            };
+            let place = rng.below(bound);
+            match rng.below(3) {
+                0 => replies[place] = rng.byte(),
+                1 => replies[place] ^= 1 << rng.below(8),
+                _ => replies.insert(place, rng.pick(&[0, 1, 2, 5, 6])),
+            }
+        }
+        _ => {}
+    }
+    let length = (file.len() as u32).to_le_bytes();
+    [&settings[..], &length[..], &file[..], &replies[..]].concat()
+}

@@ -1,0 +1,61 @@
+//! The C entry tehilgam_refusal against the second program, on seeded files.
+
+use std::io;
+
+use cases::{Case, Ending};
+
+use crate::entries::{Entries, Entry};
+use crate::outcome::Judged;
+use crate::programs::Program;
+use crate::seeded::{compare_all, fault_of, settled, tally};
+use crate::show::FLOOR;
+use crate::tally::Answers;
+
+const SEED: u64 = 20220402;
+
+pub fn run(seed: Option<u64>) -> Judged {
+    let program = Program::of_entries()?;
+    let seed = seed.unwrap_or(SEED);
+    let cases = cases::files(seed);
+    let tally = tally("refusal", seed);
+    compare_all(&tally, &cases, || Entries::start(&program), answers);
+    let enough = settled(&tally, "files", &cases, &FLOOR);
+    Ok(null_pointer_is_no_text(&program) && enough)
+}
+
+/// The entry gives a number alone, so a case's line is taken as it was made.
+pub fn answers(entries: &mut Entries, case: &Case) -> io::Result<Answers> {
+    let ours = entries.ask(Entry::Refusal, &case.bytes)?;
+    let theirs = second::number(&case.bytes);
+    let line = match case.made_for {
+        Some(Ending::Number { line, .. }) => line,
+        _ => 0,
+    };
+    let ending = Ending::Number {
+        number: theirs,
+        config: 0,
+        line,
+    };
+    Ok(Answers {
+        ours: vec![ours],
+        theirs: vec![theirs],
+        word: ending.word(),
+        fault: fault_of(case, Some(ending)),
+    })
+}
+
+/// A null pointer and length 0 are the empty file.
+fn null_pointer_is_no_text(program: &Program) -> bool {
+    let asked = Entries::start(program).and_then(|mut entries| entries.ask_null(Entry::Refusal));
+    match asked {
+        Ok(7) if second::number(b"") == 7 => true,
+        Ok(number) => {
+            println!("refusal: a null pointer with length 0 gives {number} and not 7");
+            false
+        }
+        Err(error) => {
+            println!("refusal: a null pointer with length 0 gives no answer: {error}");
+            false
+        }
+    }
+}
