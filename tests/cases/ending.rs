@@ -1,4 +1,4 @@
-//! How a case can end.
+//! How a case can end, and what it was made for.
 
 use std::fmt;
 
@@ -17,25 +17,6 @@ pub enum Ending {
 }
 
 impl Ending {
-    /// What a label says that its case was made to give; none where it says `open`.
-    ///
-    /// # Panics
-    ///
-    /// At a label of another form, which would be a case that nobody holds to anything.
-    pub fn of_label(label: &str) -> Option<Ending> {
-        let word = label.split('-').next().unwrap_or_default();
-        match word {
-            "open" => None,
-            "waiting" => Some(Ending::Waiting),
-            "cutshort" => Some(Ending::CutShort),
-            "toolong" => Some(Ending::TooLong),
-            _ => match word.strip_prefix("want").and_then(wanted) {
-                Some(ending) => Some(ending),
-                None => panic!("the label {label} does not say what its case was made to give"),
-            },
-        }
-    }
-
     /// One word for a tally: the number, or what the dry run says.
     pub fn word(&self) -> String {
         match self {
@@ -43,6 +24,32 @@ impl Ending {
             Ending::Waiting => "waiting".into(),
             Ending::CutShort => "cut short".into(),
             Ending::TooLong => "too long".into(),
+        }
+    }
+}
+
+/// What a case was made to give, by the first word of its label.
+#[derive(Clone, Copy, PartialEq)]
+pub enum Made {
+    For(Ending),
+    /// `open`: it is not known from the making of the case.
+    Open,
+    /// The word has none of the forms, so that nobody would hold the case to anything.
+    Unsaid,
+}
+
+impl Made {
+    pub fn of_label(label: &str) -> Made {
+        let word = label.split('-').next().unwrap_or_default();
+        match word {
+            "open" => Made::Open,
+            "waiting" => Made::For(Ending::Waiting),
+            "cutshort" => Made::For(Ending::CutShort),
+            "toolong" => Made::For(Ending::TooLong),
+            _ => word
+                .strip_prefix("want")
+                .and_then(wanted)
+                .map_or(Made::Unsaid, Made::For),
         }
     }
 }

@@ -14,7 +14,7 @@ pub mod random;
 mod sessions;
 pub mod text;
 
-pub use ending::Ending;
+pub use ending::{Ending, Made};
 pub use files::files;
 pub use list::Case;
 pub use sessions::sessions;

@@ -1,12 +1,12 @@
 //! The list that a generator puts its cases on.
 
-use crate::ending::Ending;
+use crate::ending::Made;
 
-/// An input, its name, and what it was made to give, if that is known from its making.
+/// An input, its name, and what it was made to give.
 #[derive(Clone)]
 pub struct Case {
     pub name: String,
-    pub made_for: Option<Ending>,
+    pub made: Made,
     pub bytes: Vec<u8>,
 }
 
@@ -15,7 +15,7 @@ impl Case {
     pub fn changed(&self, bytes: Vec<u8>) -> Case {
         Case {
             name: format!("{}-changed", self.name),
-            made_for: None,
+            made: Made::Open,
             bytes,
         }
     }
@@ -30,7 +30,7 @@ impl List {
     pub fn put(&mut self, label: &str, bytes: &[u8]) {
         self.0.push(Case {
             name: format!("{:04}-{label}", self.0.len()),
-            made_for: Ending::of_label(label),
+            made: Made::of_label(label),
             bytes: bytes.to_vec(),
         });
     }

@@ -5,6 +5,7 @@
 //! 2 something is missing or the words are off.
 
 mod changes;
+mod difference;
 mod entries;
 mod fuzz;
 mod made;

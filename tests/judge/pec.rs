@@ -3,7 +3,7 @@
 
 use std::io;
 
-use cases::Case;
+use cases::{Case, Made};
 
 use crate::entries::{Entries, Entry};
 use crate::outcome::Judged;
@@ -87,7 +87,7 @@ fn messages(seed: u64) -> Vec<Case> {
         for length in 0..=LONGEST {
             cases.push(Case {
                 name: format!("round{round}-length{length}"),
-                made_for: None,
+                made: Made::Open,
                 bytes: (0..length).map(|_| draw(&mut drawn)).collect(),
             });
         }
@@ -115,17 +115,19 @@ fn known_answers(entries: &mut Entries) -> io::Result<bool> {
     ];
     let mut right = true;
     for (what, bytes, wanted) in known {
-        right &= same(what, entries.ask(Entry::Pec, bytes)?, wanted);
-        right &= same(what, second::pec(bytes), wanted);
-        right &= same(what, by_division(bytes), wanted);
+        let given = entries.ask(Entry::Pec, bytes)?;
+        right &= same("tehilgam_pec", what, given, wanted);
+        right &= same("the second program", what, second::pec(bytes), wanted);
+        right &= same("the division", what, by_division(bytes), wanted);
     }
-    let null = entries.ask_null(Entry::Pec)?;
-    Ok(same("no bytes at a null pointer", null, 0x00) && right)
+    let given = entries.ask_null(Entry::Pec)?;
+    right &= same("tehilgam_pec", "a null pointer with length 0", given, 0x00);
+    Ok(right)
 }
 
-fn same(what: &str, got: u8, wanted: u8) -> bool {
-    if got != wanted {
-        println!("pec: {what} gives {got:02X} and not {wanted:02X}");
+fn same(who: &str, what: &str, given: u8, wanted: u8) -> bool {
+    if given != wanted {
+        println!("pec: {who} gives {given:02X} for {what} and not {wanted:02X}");
     }
-    got == wanted
+    given == wanted
 }

@@ -2,7 +2,7 @@
 
 use std::io;
 
-use cases::{Case, Ending};
+use cases::{Case, Ending, Made};
 
 use crate::entries::{Entries, Entry};
 use crate::outcome::Judged;
@@ -27,8 +27,8 @@ pub fn run(seed: Option<u64>) -> Judged {
 pub fn answers(entries: &mut Entries, case: &Case) -> io::Result<Answers> {
     let ours = entries.ask(Entry::Refusal, &case.bytes)?;
     let theirs = second::number(&case.bytes);
-    let line = match case.made_for {
-        Some(Ending::Number { line, .. }) => line,
+    let line = match case.made {
+        Made::For(Ending::Number { line, .. }) => line,
         _ => 0,
     };
     let ending = Ending::Number {

@@ -5,7 +5,7 @@ use std::io;
 use std::sync::atomic::{AtomicUsize, Ordering};
 use std::thread;
 
-use cases::{Case, Ending};
+use cases::{Case, Ending, Made};
 
 use crate::tally::{Answers, Tally};
 
@@ -73,10 +73,11 @@ pub fn printed(
 
 /// What is wrong with an ending, though both sides may agree on it.
 pub fn fault_of(case: &Case, ending: Option<Ending>) -> Option<String> {
-    match (case.made_for, ending) {
+    match (case.made, ending) {
         (_, None) => Some("it is no answer".into()),
-        (Some(made_for), Some(ending)) if made_for != ending => Some(format!(
-            "the case was made for {made_for}, and both give {ending}"
+        (Made::Unsaid, _) => Some("the label does not say what the case was made for".into()),
+        (Made::For(made), Some(ending)) if made != ending => Some(format!(
+            "the case was made for {made}, and both give {ending}"
         )),
         _ => None,
     }
@@ -109,7 +110,11 @@ fn lacking(tally: &Tally, what: &str, made: u64, floor: &Floor) -> Vec<String> {
     }
     for answer in floor.answers {
         if tally.times(answer) < floor.times {
-            faults.push(format!("{answer} fewer than {} times", floor.times));
+            let times = floor.times;
+            faults.push(format!(
+                "{} was given fewer than {times} times",
+                answer.trim()
+            ));
         }
     }
     faults

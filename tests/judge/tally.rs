@@ -6,6 +6,8 @@ use std::io;
 use std::path::PathBuf;
 use std::sync::Mutex;
 
+use crate::difference::difference;
+
 /// More differing inputs than these are counted and not kept.
 const KEPT: u64 = 20;
 
@@ -96,8 +98,8 @@ impl Tally {
         let word = answers.word.clone();
         *self.given.lock().unwrap().entry(word).or_insert(0) += 1;
         let why = match &answers.fault {
-            _ if answers.ours != answers.theirs => "it is not what the second program gives",
-            Some(fault) => fault,
+            _ if answers.ours != answers.theirs => difference(&answers.ours, &answers.theirs),
+            Some(fault) => fault.clone(),
             None => return Ok(()),
         };
         let mut differ = self.differ.lock().unwrap();
