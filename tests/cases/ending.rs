@@ -17,6 +17,15 @@ pub enum Ending {
 }
 
 impl Ending {
+    /// From decimal digits.
+    pub fn number(number: &str, config: &str, line: &str) -> Option<Ending> {
+        Some(Ending::Number {
+            number: number.parse().ok()?,
+            config: config.parse().ok()?,
+            line: line.parse().ok()?,
+        })
+    }
+
     /// One word for a tally: the number, or what the dry run says.
     pub fn word(&self) -> String {
         match self {
@@ -56,18 +65,13 @@ impl Made {
 
 /// `24`, `31n2` (31 with N 2) or `5at7` (number 5, line 7).
 fn wanted(word: &str) -> Option<Ending> {
-    let (number, config, line) = if let Some((number, line)) = word.split_once("at") {
-        (number, "0", line)
+    if let Some((number, line)) = word.split_once("at") {
+        Ending::number(number, "0", line)
     } else if let Some((number, config)) = word.split_once('n') {
-        (number, config, "0")
+        Ending::number(number, config, "0")
     } else {
-        (word, "0", "0")
-    };
-    Some(Ending::Number {
-        number: number.parse().ok()?,
-        config: config.parse().ok()?,
-        line: line.parse().ok()?,
-    })
+        Ending::number(word, "0", "0")
+    }
 }
 
 impl fmt::Display for Ending {

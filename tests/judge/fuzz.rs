@@ -12,11 +12,13 @@ use cases::random::Rng;
 
 use crate::changes::{changed_input, changed_text};
 use crate::entries::Entries;
-use crate::outcome::Judged;
 use crate::programs::Program;
+use crate::replay::REPLAY;
 use crate::seeded::told;
+use crate::show::SHOW;
 use crate::tally::Tally;
-use crate::{pec, refusal, replay, show};
+use crate::Judged;
+use crate::{pec, refusal};
 
 const KEPT_IN: &str = "target/fuzz/kept";
 
@@ -32,13 +34,14 @@ struct Plan {
 impl Plan {
     fn new(seconds: u64, seed: u64) -> Result<Plan, String> {
         let began = Instant::now();
+        let until = began.checked_add(Duration::from_secs(seconds));
         Ok(Plan {
             began,
-            until: began + Duration::from_secs(seconds),
+            until: until.ok_or("no clock counts so many seconds")?,
             seed,
             entries: Program::of_entries()?,
-            show: Program::delivered("show")?,
-            replay: Program::delivered("replay")?,
+            show: SHOW.program()?,
+            replay: REPLAY.program()?,
         })
     }
 
@@ -116,7 +119,7 @@ fn files_by_show(plan: &Plan, shows: &Tally) -> io::Result<()> {
             } else {
                 made.changed(changed_text(&mut rng, &made.bytes, other))
             };
-            let answers = show::answers(&plan.show, &case);
+            let answers = SHOW.answers(&plan.show, &case);
             shows.compare(&case.name, &case.bytes, answers)?;
         }
     }
@@ -139,7 +142,7 @@ fn sessions_by_replay(plan: &Plan, replays: &Tally, worker: u64) -> io::Result<(
             } else {
                 made.clone()
             };
-            let answers = replay::answers(&plan.replay, &case);
+            let answers = REPLAY.answers(&plan.replay, &case);
             replays.compare(&case.name, &case.bytes, answers)?;
         }
     }

@@ -10,7 +10,7 @@ use cases::random::Rng;
 use cases::Case;
 
 use crate::number;
-use crate::outcome::Judged;
+use crate::Judged;
 
 /// Writes what the words ask for; none if they ask for nothing known.
 pub fn made(words: &[&str]) -> Option<Judged> {

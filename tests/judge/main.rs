@@ -9,8 +9,8 @@ mod difference;
 mod entries;
 mod fuzz;
 mod made;
-mod outcome;
 mod pec;
+mod printing;
 mod programs;
 mod refusal;
 mod replay;
@@ -21,7 +21,11 @@ mod tally;
 use std::env;
 use std::process::ExitCode;
 
-use outcome::Judged;
+use replay::REPLAY;
+use show::SHOW;
+
+/// Whether none differed and enough was seen; or what is missing.
+pub type Judged = Result<bool, String>;
 
 const USAGE: &str = "usage: judge pec|refusal|show|replay [SEED]
        judge fuzz SECONDS SEED
@@ -63,8 +67,8 @@ fn seeded(mode: &str) -> Option<fn(Option<u64>) -> Judged> {
     Some(match mode {
         "pec" => pec::run,
         "refusal" => refusal::run,
-        "show" => show::run,
-        "replay" => replay::run,
+        "show" => |seed| SHOW.run(seed),
+        "replay" => |seed| REPLAY.run(seed),
         _ => return None,
     })
 }

@@ -6,10 +6,10 @@ use std::io;
 use cases::{Case, Made};
 
 use crate::entries::{Entries, Entry};
-use crate::outcome::Judged;
 use crate::programs::Program;
 use crate::seeded::{compare_all, settled, tally, Floor};
 use crate::tally::Answers;
+use crate::Judged;
 
 const SEED: u64 = 0x7E41_106A_2026_B001;
 const LONGEST: usize = 5_000;

@@ -27,8 +27,8 @@ impl Program {
         let words = env::var(variable)
             .map_err(|_| format!("{variable} does not say how {path} is started"))?;
         let words: Vec<String> = words.lines().chain([path]).map(str::to_string).collect();
-        let paths = words.iter().filter(|word| !word.starts_with('-'));
-        match paths.into_iter().find(|word| !Path::new(word).exists()) {
+        let mut paths = words.iter().filter(|word| !word.starts_with('-'));
+        match paths.find(|word| !Path::new(word).exists()) {
             Some(word) => Err(format!("there is no {word}")),
             None => Ok(Program { words }),
         }

@@ -5,11 +5,11 @@ use std::io;
 use cases::{Case, Ending, Made};
 
 use crate::entries::{Entries, Entry};
-use crate::outcome::Judged;
 use crate::programs::Program;
 use crate::seeded::{compare_all, fault_of, settled, tally};
 use crate::show::FLOOR;
 use crate::tally::Answers;
+use crate::Judged;
 
 const SEED: u64 = 20220402;
 

@@ -1,36 +1,42 @@
-//! The program replay against the second program, byte for byte, on seeded dry runs against a
-//! simulated regulator.
+//! The program replay, on dry runs against a simulated regulator.
 
-use std::io;
+use cases::Ending;
 
-use cases::Case;
+use crate::printing::Printing;
+use crate::seeded::Floor;
 
-use crate::outcome::{ending_of_replay, Judged};
-use crate::programs::Program;
-use crate::seeded::{compare_all, printed, settled, tally, Floor};
-use crate::tally::Answers;
-
-const SEED: u64 = 20220403;
-
-const FLOOR: Floor = Floor {
-    cases: 400,
-    times: 10,
-    answers: &[
-        " 0", "14", "20", "21", "22", "23", "24", "25", "26", "27", "28", "29", "30", "31",
-    ],
+pub const REPLAY: Printing = Printing {
+    name: "replay",
+    seed: 20220403,
+    cases: cases::sessions,
+    what: "dry runs",
+    second: second::replay,
+    ending_of,
+    floor: Floor {
+        cases: 400,
+        times: 10,
+        answers: &[
+            " 0", "14", "20", "21", "22", "23", "24", "25", "26", "27", "28", "29", "30", "31",
+        ],
+    },
 };
 
-pub fn run(seed: Option<u64>) -> Judged {
-    let replay = Program::delivered("replay")?;
-    let seed = seed.unwrap_or(SEED);
-    let cases = cases::sessions(seed);
-    let tally = tally("replay", seed);
-    compare_all(&tally, &cases, || Ok(()), |_, case| answers(&replay, case));
-    Ok(settled(&tally, "dry runs", &cases, &FLOOR))
-}
-
-pub fn answers(replay: &Program, case: &Case) -> io::Result<Answers> {
-    let ours = replay.output_for(&case.bytes)?;
-    let theirs = second::replay(&case.bytes);
-    Ok(printed(case, ours, theirs, ending_of_replay))
+/// By the one line that is neither a request nor the count.
+fn ending_of(printed: &str) -> Option<Ending> {
+    let beside = ["write ", "read ", "count "];
+    let ends: Vec<&str> = printed
+        .lines()
+        .filter(|line| !beside.iter().any(|word| line.starts_with(word)))
+        .collect();
+    let words: Vec<&str> = match ends[..] {
+        [end] => end.split(' ').collect(),
+        _ => return None,
+    };
+    match words[..] {
+        ["waiting"] => Some(Ending::Waiting),
+        ["cut", "short"] => Some(Ending::CutShort),
+        ["too", "long"] => Some(Ending::TooLong),
+        ["verdict", number, "config", config, "line", line] => Ending::number(number, config, line),
+        _ => None,
+    }
 }

@@ -55,22 +55,6 @@ pub fn told(name: &str, result: io::Result<()>) -> io::Result<()> {
     result
 }
 
-/// The answers of a program that prints how a case ended, held to what the case was made to give.
-pub fn printed(
-    case: &Case,
-    ours: Vec<u8>,
-    theirs: String,
-    ending_of: fn(&str) -> Option<Ending>,
-) -> Answers {
-    let ending = ending_of(&theirs);
-    Answers {
-        ours,
-        theirs: theirs.into_bytes(),
-        word: ending.map_or("no answer".into(), |ending| ending.word()),
-        fault: fault_of(case, ending),
-    }
-}
-
 /// What is wrong with an ending, though both sides may agree on it.
 pub fn fault_of(case: &Case, ending: Option<Ending>) -> Option<String> {
     match (case.made, ending) {

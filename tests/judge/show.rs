@@ -1,15 +1,19 @@
-//! The program show against the second program, byte for byte, on seeded files.
+//! The program show, on case files.
 
-use std::io;
+use cases::Ending;
 
-use cases::Case;
+use crate::printing::Printing;
+use crate::seeded::Floor;
 
-use crate::outcome::{ending_of_show, Judged};
-use crate::programs::Program;
-use crate::seeded::{compare_all, printed, settled, tally, Floor};
-use crate::tally::Answers;
-
-const SEED: u64 = 20220401;
+pub const SHOW: Printing = Printing {
+    name: "show",
+    seed: 20220401,
+    cases: cases::files,
+    what: "files",
+    second: second::show,
+    ending_of,
+    floor: FLOOR,
+};
 
 /// No file gives 12: where n = 12 + s x k, every identifier and CRC line lies in it.
 pub const FLOOR: Floor = Floor {
@@ -20,17 +24,12 @@ pub const FLOOR: Floor = Floor {
     ],
 };
 
-pub fn run(seed: Option<u64>) -> Judged {
-    let show = Program::delivered("show")?;
-    let seed = seed.unwrap_or(SEED);
-    let cases = cases::files(seed);
-    let tally = tally("show", seed);
-    compare_all(&tally, &cases, || Ok(()), |_, case| answers(&show, case));
-    Ok(settled(&tally, "files", &cases, &FLOOR))
-}
-
-pub fn answers(show: &Program, case: &Case) -> io::Result<Answers> {
-    let ours = show.output_for(&case.bytes)?;
-    let theirs = second::show(&case.bytes);
-    Ok(printed(case, ours, theirs, ending_of_show))
+/// By the first line.
+fn ending_of(printed: &str) -> Option<Ending> {
+    let words: Vec<&str> = printed.lines().next()?.split(' ').collect();
+    match words[..] {
+        ["ok", ..] => Ending::number("0", "0", "0"),
+        ["refused", number, "line", line] => Ending::number(number, "0", line),
+        _ => None,
+    }
 }

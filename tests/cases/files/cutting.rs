@@ -29,7 +29,11 @@ impl Files {
         for (number, line, label, text) in cases {
             self.want(number, line, &format!("tiny-{label}"), text);
         }
-        // The lines of the page's twelve examples, each where the page puts it.
+        self.lines_of_the_page();
+    }
+
+    /// The lines of the page's twelve examples, each where the page puts it.
+    fn lines_of_the_page(&mut self) {
         let top = "4907C0AD49D28100FA\n4907C0AE060000004F\n";
         let legacy_listing = format!("{top}490AC001352E342E3233334C9\n");
         self.want(PAIRS, 3, "page-25-digits", legacy_listing.as_bytes());

@@ -20,6 +20,12 @@ impl Sessions {
                 self.put(&format!("want0-{}-k{k}", kind.name()), &session);
             }
         }
+        self.done_setups();
+        self.done_codes_and_identifiers();
+    }
+
+    /// Step 1 with each bit of interest in what it reads.
+    fn done_setups(&mut self) {
         let setups = [
             0,
             0x20,
@@ -38,6 +44,9 @@ impl Sessions {
                 self.put(&format!("want0-setup-{setup:08x}"), &session);
             }
         }
+    }
+
+    fn done_codes_and_identifiers(&mut self) {
         for code in [
             0x00, 0x01, 0xC0, 0xC1, 0xC4, 0xC8, 0xE6, 0xE8, 0xAC, 0xAF, 0xF2, 0xFF,
         ] {

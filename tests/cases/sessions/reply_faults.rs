@@ -153,20 +153,28 @@ impl Sessions {
             (22, "pec-without-c1", Reply::done(pec_without)),
         ];
         if command != 0xC5 {
-            for (name, count) in [
-                ("block-3", 3),
-                ("block-5", 5),
-                ("block-0", 0),
-                ("block-84", 0x84),
-            ] {
-                let block = [&[count], &data[1..]].concat();
-                faults.push((21, name, Reply::sealed(command, block)));
-            }
-            let mut both = good.to_vec();
-            both[0] = 6;
-            faults.push((21, "block-6-and-pec", Reply::done(both)));
-            faults.push((21, "no-block", Reply::sealed(command, data[1..].to_vec())));
+            faults.extend(faulty_blocks(command, good));
         }
         faults
     }
+}
+
+/// Replies to AD or AE whose block count is wrong or missing.
+fn faulty_blocks(command: u8, good: &[u8]) -> Vec<(u8, &'static str, Reply)> {
+    let data = &good[1..good.len() - 1];
+    let counts = [
+        ("block-3", 3),
+        ("block-5", 5),
+        ("block-0", 0),
+        ("block-84", 0x84),
+    ];
+    let mut faults: Vec<_> = counts
+        .into_iter()
+        .map(|(name, count)| (21, name, Reply::sealed(command, [&[count], data].concat())))
+        .collect();
+    let mut both = good.to_vec();
+    both[0] = 6;
+    faults.push((21, "block-6-and-pec", Reply::done(both)));
+    faults.push((21, "no-block", Reply::sealed(command, data.to_vec())));
+    faults
 }
