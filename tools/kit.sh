@@ -60,17 +60,23 @@ run_c() { # PROGRAM [WORDS...]
 # The words by which run_c starts a program, as x86_words.
 c_words() { [ "$(uname -m)" = x86_64 ] || x86_words; }
 
+# Whether a program of target/tests was built since its sources changed last.
+is_built() { # NAME SOURCES...
+    built=target/tests/$1
+    shift
+    [ -x "$built" ] && [ -e "$built.built" ] && [ -z "$(find "$@" -newer "$built.built" | head -n 1)" ]
+}
+
 # Compiles a library or a program of the outside judges, which finds the libraries that are compiled already.
 compile_judge() { # OPTIONS... SOURCE
     rustc --edition 2021 -O -L target/tests "$@"
 }
 
-# Builds the second program, the cases and the driver that compares: all of them where a source is newer than the last time.
+# Builds the second program, the cases and the driver that compares, where one of their sources is new.
 build_judge() {
+    is_built judge tests/second tests/cases tests/judge && return 0
     need rustc rustc || return 1
     mkdir -p target/tests
-    if [ -e target/tests/judge.built ] &&
-        [ -z "$(find tests/second tests/cases tests/judge -name '*.rs' -newer target/tests/judge.built)" ]; then return 0; fi
     : >target/tests/judge.began
     compile_judge --crate-type rlib --crate-name second --out-dir target/tests tests/second/lib.rs &&
         compile_judge --crate-type rlib --crate-name cases --out-dir target/tests tests/cases/lib.rs &&
@@ -79,11 +85,14 @@ build_judge() {
         mv target/tests/judge.began target/tests/judge.built
 }
 
-# Links the C driver of the two entries with the delivered archive.
+# Links the C driver of the two entries with the delivered archive, where one of their sources is new.
 build_entries() {
+    is_built entries crates crates.txt include tests/judge/entries.c && return 0
     mkdir -p target/tests
+    : >target/tests/entries.began
     { rt staticlib loader && link_c target/tests/entries tests/judge/entries.c target/staticlib/libloader.a; } >target/tests/entries.log 2>&1 ||
         { cat target/tests/entries.log; return 1; }
+    mv target/tests/entries.began target/tests/entries.built
 }
 
 # Runs the driver, which starts the delivered programs by these words.
