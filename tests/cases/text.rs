@@ -55,9 +55,10 @@ impl Style {
 }
 
 pub fn capital(bytes: &[u8]) -> Vec<u8> {
+    let digit = |value: u8| b"0123456789ABCDEF"[usize::from(value)];
     bytes
         .iter()
-        .flat_map(|byte| format!("{byte:02X}").into_bytes())
+        .flat_map(|byte| [digit(byte >> 4), digit(byte & 0x0F)])
         .collect()
 }
 
