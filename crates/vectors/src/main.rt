@@ -1,14 +1,14 @@
-// Runs the examples of document 01 that are marked to be run and compared through the proved functions, and prints what comes out:
-// a line each. The file `stdout` beside src/ has the page's answers.
+// Runs the examples of document 01 that are marked to be run and compared through the proved functions, and then every reason of its
+// refusal 15, and prints what comes out: a line each. The file `stdout` beside src/ has the page's answers.
+mod said;
+mod states;
+
 use counts::Kind;
 use counts::KindFound;
 use guide::Fit;
 use guide::Polled;
 use libc::STDOUT_FILENO;
-
-fn say(words: &[u8]) {
-    io::write_all(STDOUT_FILENO, words);
-}
+use said::say;
 
 fn say_number(number: u8) {
     io::print_decimal(STDOUT_FILENO, number as u64);
@@ -94,4 +94,5 @@ fn main() {
     count(Kind::Production, 738);
     say(b"349 lines: ");
     count(Kind::Legacy, 349);
+    states::run();
 }
