@@ -6,11 +6,11 @@ use lib.Dec.{eqb}
 use borrow.Author.Tests.{ne-eqb}
 use Rattle.bus.specs.Bus.{eight, framed, readOf, wordBytes}
 use Rattle.bus.specs.InForm.{wrote, registerRead, blockRead}
-use Rattle.host.specs.Replies.{took, wordReply, blockReply, readReply, replyOf}
+use Rattle.host.specs.Replies.{took, wordReply, blockReply, readReply, deviceReply}
 use Rattle.host.specs.Statements.{InFormWhileItLasts}
 
 pub in-form-while-it-lasts : InFormWhileItLasts
-unfolding replyOf readReply took wordReply blockReply framed readOf eight wordBytes
+unfolding deviceReply readReply took wordReply blockReply framed readOf eight wordBytes
 in-form-while-it-lasts d h =
     let lasts : eqb (d .lasts) 0 ≡ false = ne-eqb (d .lasts) 0 (λ e. omega arith) in
     record {

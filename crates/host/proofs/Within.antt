@@ -7,10 +7,10 @@ use Rattle.promise.proofs.Basics.{split}
 use Rattle.bus.specs.Bus.{wordBytes}
 use Rattle.bus.specs.declared.Request.{Request}
 use Rattle.host.specs.declared.Regulator.{Regulator}
-use Rattle.host.specs.Replies.{silent, took, wordReply, blockReply, readReply, replyOf}
+use Rattle.host.specs.Replies.{silent, took, wordReply, blockReply, readReply, deviceReply}
 
-pub reply-within : (d : Regulator) (q : Request) → replyOf d q .count ≤ length (replyOf d q .bytes)
-unfolding replyOf readReply silent took wordReply blockReply wordBytes
+pub reply-within : (d : Regulator) (q : Request) → deviceReply d q .count ≤ length (deviceReply d q .bytes)
+unfolding deviceReply readReply silent took wordReply blockReply wordBytes
 reply-within d q =
     split (eqb (d .lasts) 0) (λ t. rw t (omega arith))
     (λ t. split (q .reads)

@@ -41,6 +41,6 @@ readReply d command =
     cond (eqb command 0xAD) (blockReply command (d .file .identity))
     (cond (eqb command 0xAE) (blockReply command 0x06000000) (wordReply command (valueOf d)))
 
-unfoldable pub replyOf : Regulator → Request → Reply
-replyOf d q =
+unfoldable pub deviceReply : Regulator → Request → Reply
+deviceReply d q =
     cond (eqb (d .lasts) 0) silent (cond (q .reads) (readReply d (getD (q .bytes) 1 0)) took)

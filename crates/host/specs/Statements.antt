@@ -7,7 +7,7 @@ use Rattle.bus.specs.Bus.{readData, readBlock, framed}
 use Rattle.bus.specs.InForm.{InForm, spelled}
 use Rattle.host.specs.declared.Regulator.{Regulator}
 use Rattle.host.specs.declared.Reply.{Reply}
-use Rattle.host.specs.Replies.{valueOf, replyOf}
+use Rattle.host.specs.Replies.{valueOf, deviceReply}
 
 -- the bytes of a reply that are handed on
 abbrev pub handed : Reply → List ℕ
@@ -18,7 +18,7 @@ abbrev pub told : ℕ → ℕ
 told w = spelled (w % 256) (w / 256 % 256) (w / 65536 % 256) (w / 16777216 % 256)
 
 abbrev pub Answers : Regulator → Request → ℕ → Type 0
-Answers d q w = InForm q (replyOf d q .kind) (handed (replyOf d q)) w
+Answers d q w = InForm q (deviceReply d q .kind) (handed (deviceReply d q)) w
 
 -- while it lasts, it answers every request of a session in form: reads with what it holds
 pub record AnswersInForm (d : Regulator) : Type 0 where

@@ -8,7 +8,7 @@ use counts::ConfigId;
 use counts::Kind;
 use summary::Summary;
 ghost use mathlib.Core.Path.{_≡_};
-ghost use Rattle.host.specs.Replies.{silent, took, wordReply, blockReply, valueOf, readReply, replyOf};
+ghost use Rattle.host.specs.Replies.{silent, took, wordReply, blockReply, valueOf, readReply, deviceReply};
 
 // The command that restores a configuration is a setting, since its code stood in a figure of the guide (document 01).
 pub(crate) const RESTORE: u8 = 0xF2;
@@ -168,7 +168,7 @@ impl Regulator {
     }
 
     fn answered(self, request: Request) -> Reply
-        ensures { λ r. ⌜ r ≡ replyOf self request ⌝ }
+        ensures { λ r. ⌜ r ≡ deviceReply self request ⌝ }
     {
         if self.lasts == 0 {
             return Reply::silent();
@@ -226,7 +226,7 @@ impl Regulator {
 
     // The request goes to the device, and its reply comes back.
     pub(crate) fn exchange(self, request: Request) -> Carried
-        ensures { λ r. ⌜ r .reply ≡ replyOf self request ⌝ }
+        ensures { λ r. ⌜ r .reply ≡ deviceReply self request ⌝ }
     {
         Carried {
             regulator: self.after(request),

@@ -16,22 +16,22 @@ abbrev pub part : List ℕ → ℕ → ℕ → List ℕ
 part s start end = take (end - start) (drop start s)
 
 -- where no whole reply stands the session stays as it is, else it goes on behind the reply
-unfoldable pub afterBy : List ℕ → List ℕ → Session → Found → (ℕ → Session → Session) → Session
-afterBy input file s End on = s
-afterBy input file s (Reply kind start end) on = on end (replyOf file s kind (part input start end) .session)
-afterBy input file s Part on = s
+unfoldable pub fedBy : List ℕ → List ℕ → Session → Found → (ℕ → Session → Session) → Session
+fedBy input file s End on = s
+fedBy input file s (Reply kind start end) on = on end (replyOf file s kind (part input start end) .session)
+fedBy input file s Part on = s
 
 -- the session after so many of the replies from a place on
-unfoldable pub after : List ℕ → List ℕ → ℕ → ℕ → Session → Session
-after input file zero at s = s
-after input file (suc n) at s = afterBy input file s (foundAt input at) (after input file n)
+unfoldable pub fedOf : List ℕ → List ℕ → ℕ → ℕ → Session → Session
+fedOf input file zero at s = s
+fedOf input file (suc n) at s = fedBy input file s (foundAt input at) (fedOf input file n)
 
 -- begun with the settings and the file of the input
 unfoldable pub sentBy : List ℕ → ℕ → Input → ℕ
 sentBy input n CutShort = 0
 sentBy input n TooLong = 0
 sentBy input n (Whole h) =
-    after input (part input 8 (h .behind)) n (h .behind) (beginOf (h .settings) (part input 8 (h .behind)) .session) .sent
+    fedOf input (part input 8 (h .behind)) n (h .behind) (beginOf (h .settings) (part input 8 (h .behind)) .session) .sent
 
 unfoldable pub sentAfter : List ℕ → ℕ → ℕ
 sentAfter input n = sentBy input n (inputOf input)

@@ -4,7 +4,7 @@ use dryrun::Input;
 use session::Session;
 ghost use mathlib.Core.Path.{_≡_};
 ghost use Rattle.pec.specs.Lent.{runWith};
-ghost use Rattle.measured.specs.Replies.{after, sentAfter};
+ghost use Rattle.measured.specs.Replies.{fedOf, sentAfter};
 
 // The register after some bytes, by a table that the caller has made once.
 #[no_mangle]
@@ -16,7 +16,7 @@ pub extern "C" fn measured_run_with(table: &[u8; 256], register: u8, bytes: &[u8
 
 // The session once it was given so many of the replies from a place of the input on, or those that there are.
 fn fed(begun: Session, input: &[u8], file: &[u8], from: usize, replies: u32) -> Session
-    ensures { λ r. ⌜ r ≡ after (now (input .entry)) (now (file .entry)) replies from begun ⌝ }
+    ensures { λ r. ⌜ r ≡ fedOf (now (input .entry)) (now (file .entry)) replies from begun ⌝ }
 {
     let mut s = begun;
     let mut at = from;

@@ -3,14 +3,14 @@ use mathlib.Core.Path.{_≡_, refl, sym, _∙_}
 use Prim.Native.Nat.{_<_}
 use native.Mathlib.Omega.{arith}
 use Rattle.dryrun.proofs.Whole.{found-within}
-use Rattle.measured.specs.Replies.{afterBy, after}
+use Rattle.measured.specs.Replies.{fedBy, fedOf}
 use Rattle.measured.proofs.Turns.{after-step}
 use borrow.Author.Needs.{needs}
 use Rattle.measured.proofs.fed.Statement.{statement}
 use Rattle.measured.proofs.fed.Tie as tie
 
 abbrev Inv-loop : tie.InvT-loop
-Inv-loop input file from replies s₀ at₀ left₀ s at left = after input file replies from s₀ ≡ after input file left at s
+Inv-loop input file from replies s₀ at₀ left₀ s at left = fedOf input file replies from s₀ ≡ fedOf input file left at s
 
 abbrev μ-loop : tie.MeasureT-loop
 μ-loop input file from replies s₀ at₀ left₀ s at left = left
@@ -19,7 +19,7 @@ loop-holds : tie.Need-loop-holds Inv-loop μ-loop
 loop-holds c = refl
 
 returns : tie.Need-returns Inv-loop μ-loop
-unfolding afterBy
+unfolding fedBy
 returns c =
     let loop = c .before .before .before .before .loop in
     let some : 0 < loop .left = search needs in
@@ -47,7 +47,7 @@ part-reply-end c =
     within .inside
 
 loop-again : tie.Need-loop-again Inv-loop μ-loop
-unfolding afterBy
+unfolding fedBy
 loop-again c =
     let found = c .before .before .before .before in
     let loop = found .before .before .before .before .loop in
@@ -57,14 +57,14 @@ loop-again c =
     ∙ rw (← found .before .before .reply-at .ensures, found .found .given .1, ← c .before .reply .ensures))
 
 returns-2 : tie.Need-returns-2 Inv-loop μ-loop
-unfolding afterBy
+unfolding fedBy
 returns-2 c =
     let loop = c .before .before .before .before .loop in
     let some : 0 < loop .left = search needs in
     sym (loop .inv ∙ (after-step _ _ (loop .left) (loop .at) _ some ∙ rw (← c .before .before .reply-at .ensures, c .enum-told2 .given .1)))
 
 returns-3 : tie.Need-returns-3 Inv-loop μ-loop
-unfolding after
+unfolding fedOf
 returns-3 c =
     let loop = c .before .loop in
     let none : loop .left ≡ 0 = search needs in
