@@ -24,7 +24,7 @@ use Rattle.image.specs.Says.{kindIn, lineNo, revisionSays, fileKind, fil
 use Rattle.image.specs.Tests.{knownDevice, isUnknown, tooLong, tooFew, otherRevision, otherDevice, fitsNone, burnAmiss, beyond, otherSpot, sameIds}
 use Rattle.image.specs.Check.{refusedIf, firstRefusal, lineAnswers, wholeAnswers, answerOf, checkedAs, checkOf}
 use Rattle.image.specs.Private.Walk.{start, factsFrom, spotsTo}
-use Rattle.image.specs.Private.Cascade.{refusedBy, onSpots, onConfigs, onKind, onFacts, onTold, walkOf}
+use Rattle.image.specs.Private.Cascade.{refusedBy, onSpots, onConfigs, onKind, onFacts, onTold}
 use Rattle.image.proofs.SpotPlaces.{configs-le}
 use Rattle.image.proofs.WalkSays.{answerBy, told-first}
 use Rattle.image.proofs.WalkKeeps.{line-no, count, burn, other-spot, same-ids, said, not-beyond}
@@ -116,6 +116,10 @@ on-told : (s : List ℕ) (t : Told) → factsFrom start (linesOf s) ≡ t → on
 unfolding onTold answerBy refusedBy checkedAs
 on-told s (Whole g) e = on-facts s g e
 on-told s (Bad r) e = refl
+
+-- the walk's answer: 1, then what it was told
+unfoldable pub walkOf : List ℕ → Checked
+walkOf s = cond (ltb 65536 (length s)) (refusedBy Size) (onTold s (factsFrom start (linesOf s)))
 
 pub walk-is : (s : List ℕ) → walkOf s ≡ checkOf s
 unfolding walkOf checkOf answerOf tooLong start

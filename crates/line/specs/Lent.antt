@@ -1,5 +1,5 @@
 -- Reading at a place by lent tables: the run of digits is cut off, and what follows it must end the line. By tables that keep
--- their rules it is the line's reading (proofs/Right.antt, `lent-right`). Assumes nothing.
+-- their rules it is the line's reading (proofs/LentIsRight.antt, `lent-right`). Assumes nothing.
 use Prim.Native.Nat.{ℕ, _+_}
 use mathlib.Core.Bool.{cond}
 use mathlib.Core.List.{List, [], _∷_}

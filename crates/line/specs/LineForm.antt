@@ -1,5 +1,5 @@
 -- What a line must be, said without tests and without an order (document 01, "Lines of the file"). No promise cites this
--- page: proofs/Forms.antt shows that a line reads as good exactly where it is met. Assumes nothing.
+-- page: proofs/GoodExactly.antt shows that a line reads as good exactly where it is met. Assumes nothing.
 use mathlib.Core.Path.{_≡_}
 use mathlib.Core.Logic.{_⊎_}
 use mathlib.Core.List.{List, [], _∷_, _++_}

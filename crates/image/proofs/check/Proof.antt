@@ -4,8 +4,8 @@ use mathlib.Core.Bool.{true, false}
 use lib.ListN.{length}
 use lib.Dec.{ltb}
 use borrow.Author.Tests.{lt-ltb, le-ltb}
-use Rattle.image.specs.Private.Cascade.{walkOf, onTold}
-use Rattle.image.proofs.WalkIs.{walk-is}
+use Rattle.image.specs.Private.Cascade.{onTold}
+use Rattle.image.proofs.WalkIs.{walkOf, walk-is}
 use borrow.Author.Needs.{needs}
 use Rattle.image.proofs.check.Statement.{statement}
 use Rattle.image.proofs.check.Tie as tie

@@ -1,28 +1,27 @@
 -- What the private functions of the cascade are held to: the tests of the whole file as the code takes them, over the text and
--- what the walk keeps. Nothing public cites this page; proofs/Bridge.antt, `walk-is`, shows that it comes to the list of tests.
+-- what the walk keeps. Nothing public cites this page; proofs/WalkIs.antt, `walk-is`, shows that it comes to the list of tests.
 -- Assumes nothing.
 use Prim.Native.Nat.{ℕ, _-_}
 use mathlib.Core.Bool.{Bool, true, cond}
 use mathlib.Core.List.{List}
-use lib.ListN.{length}
 use lib.Dec.{eqb, ltb}
 use Rattle.counts.specs.declared.Kind.{Kind}
 use Rattle.counts.specs.declared.KindFound.{KindFound}
 use Rattle.counts.specs.declared.KindFound.the-variants.{Is, Unknown}
 use Rattle.counts.specs.Counts.{lineNumber, configNumber, kindOf, configsOf, crcLine}
-use Rattle.cuts.specs.Lines.{linesOf, placeOf}
+use Rattle.cuts.specs.Lines.{placeOf}
 use Rattle.image.specs.declared.Facts.{Facts}
 use Rattle.image.specs.declared.Told.{Told}
 use Rattle.image.specs.declared.Told.the-variants.{Whole, Bad}
 use Rattle.image.specs.declared.Spots.{Spots}
 use Rattle.summary.specs.declared.Refusal.{Refusal}
-use Rattle.summary.specs.declared.Refusal.the-variants.{Size, Count, Revision, Device, Burn, Spot, Beyond, Same}
+use Rattle.summary.specs.declared.Refusal.the-variants.{Count, Revision, Device, Burn, Spot, Beyond, Same}
 use Rattle.summary.specs.declared.FileAnswer.the-variants.{Accepted, Refused}
 use Rattle.summary.specs.declared.Checked.{Checked}
 use Rattle.image.specs.Says.{identityOf}
 use Rattle.summary.specs.Answers.{noSummary}
 use Rattle.image.specs.Tests.{knownDevice}
-use Rattle.image.specs.Private.Walk.{start, factsFrom, lineAt, spotsTo, sameIn}
+use Rattle.image.specs.Private.Walk.{lineAt, spotsTo, sameIn}
 
 unfoldable pub refusedBy : Refusal → Checked
 refusedBy r = record { answer = Refused r; summary = noSummary }
@@ -73,7 +72,3 @@ onFacts s f = cond (ltb (f .lines) 13) (refusedBy Count) (onKind s f (kindOf (li
 unfoldable pub onTold : List ℕ → Told → Checked
 onTold s (Whole f) = onFacts s f
 onTold s (Bad r) = refusedBy r
-
--- 1
-unfoldable pub walkOf : List ℕ → Checked
-walkOf s = cond (ltb 65536 (length s)) (refusedBy Size) (onTold s (factsFrom start (linesOf s)))
