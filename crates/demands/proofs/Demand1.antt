@@ -21,7 +21,7 @@ use Rattle.bus.specs.declared.ReplyForm.the-variants.{Unanswered, Misshapen, Mi
 use Rattle.bus.specs.Bus.{noRequest}
 use Rattle.bus.specs.ReplyForm.{formOf}
 use Rattle.guide.specs.declared.Verdict.{Verdict}
-use Rattle.guide.specs.declared.Verdict.the-variants.{Setting, File}
+use Rattle.guide.specs.declared.Verdict.the-variants.{Setting, File, Halted}
 use Rattle.guide.specs.declared.Fit.{Fit}
 use Rattle.guide.specs.declared.Fit.the-variants.{Matched, Fails}
 use Rattle.guide.specs.declared.Polled.{Polled}
@@ -82,7 +82,7 @@ module _ (text : List ℕ) (s : Session) where
   fit : (x : Fit) → Leaves (fitDoneOf text s x)
   unfolding fitDoneOf putLineOf
   fit Matched = due _ _
-  fit (Fails v) = end v
+  fit (Fails r) = end (Halted r)
 
   status : (x : Polled) → Leaves (polledDoneOf s x)
   unfolding polledDoneOf pollAgainOf

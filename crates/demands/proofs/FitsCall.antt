@@ -13,7 +13,8 @@ use Rattle.bus.specs.declared.ReplyForm.{ReplyForm}
 use Rattle.bus.specs.declared.ReplyForm.the-variants.{Unanswered, Misshapen, Miscoded, Good}
 use Rattle.bus.specs.Bus.{noRequest}
 use Rattle.guide.specs.declared.Verdict.{Verdict}
-use Rattle.guide.specs.declared.Verdict.the-variants.{Nack, Shape, Pec}
+use Rattle.guide.specs.declared.Reason.the-variants.{Nack, Shape, Pec}
+use Rattle.guide.specs.declared.Verdict.the-variants.{Halted}
 use Rattle.guide.specs.Plan.{Reply, Mark, other, Plan, ask, done, verdict}
 use Rattle.guide.specs.Guide.{hear}
 use Rattle.guide.specs.Statements.{isBurnMark}
@@ -64,9 +65,9 @@ module _ (text : List ℕ) (ls : List Line) where
   pub hear-fits : (s : Session) (g : Awaited) (next : ℕ → Plan) (h : ReplyForm) → ((w : ℕ) → Fits s (next w) (followOf text s g w))
       → Fits s (hear h next) (repliedOf text s g h)
   unfolding hear repliedOf
-  hear-fits s g next Unanswered f = end-fits s Nack
-  hear-fits s g next Misshapen f = end-fits s Shape
-  hear-fits s g next Miscoded f = end-fits s Pec
+  hear-fits s g next Unanswered f = end-fits s (Halted Nack)
+  hear-fits s g next Misshapen f = end-fits s (Halted Shape)
+  hear-fits s g next Miscoded f = end-fits s (Halted Pec)
   hear-fits s g next (Good w) f = f w
 
   pub put-fits : (s t : Session) (g : Awaited) (m : Mark) (q : Request) (next : Reply → Plan) (most : ℕ)

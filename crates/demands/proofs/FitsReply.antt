@@ -9,7 +9,8 @@ use Rattle.line.specs.declared.Line.{Line}
 use Rattle.bus.specs.declared.Request.{Request}
 use Rattle.bus.specs.Bus.{framed, writeOf, readOf, noRequest, pointTo}
 use Rattle.bus.specs.ReplyForm.{formOf}
-use Rattle.guide.specs.declared.Verdict.the-variants.{Banks}
+use Rattle.guide.specs.declared.Reason.the-variants.{Banks}
+use Rattle.guide.specs.declared.Verdict.the-variants.{Halted}
 use Rattle.guide.specs.Judged.{polledOf, banksRight}
 use Rattle.guide.specs.Plan.{Reply, Plan, ask, done, verdict}
 use Rattle.guide.specs.Guide.{hear, lineRequest, polls}
@@ -88,7 +89,7 @@ module _ (text : List ℕ) (ls : List Line) (s : Session) where
       (banks-read c) (omega arith) K
   step-fits (banks-read c) b K r =
       hear-fits text ls s BanksRead _ _ λ w.
-      cond-fits text ls s (banksRight (s .file .configs) w) (first-restore-fits text ls s K (s .file .configs) refl b) (end-fits text ls s Banks)
+      cond-fits text ls s (banksRight (s .file .configs) w) (first-restore-fits text ls s K (s .file .configs) refl b) (end-fits text ls s (Halted Banks))
   step-fits (restore left e) b K r =
       hear-fits text ls s Restore _ _ λ _.
       other-fits text ls s s CrcAt _ _ (s .file .lines + 11 + s .settings .limit + 3 * config text ls s) refl refl (omega arith)

@@ -12,6 +12,7 @@ use Rattle.line.specs.declared.Line.{Line}
 use Rattle.image.proofs.Holds.{Holds, BurnLast}
 use Rattle.bus.specs.Bus.{framed, writeOf}
 use Rattle.guide.specs.declared.Fit.{Fit}
+use Rattle.guide.specs.declared.Verdict.the-variants.{Halted}
 use Rattle.guide.specs.declared.Fit.the-variants.{Matched, Fails}
 use Rattle.guide.specs.Plan.{fileLine}
 use Rattle.guide.specs.Guide.{gate, lineRequest, lines}
@@ -69,4 +70,4 @@ module _ (text : List ℕ) (ls : List Line) where
       → Fits text ls s (gate x (RestOfGuide.linesFrom (s .file) ls (s .settings) 5 ls)) (fitDoneOf text s x)
   unfolding gate fitDoneOf
   gate-fits s Matched f n K = first-line-fits s ls refl (K .burns) f n K
-  gate-fits s (Fails v) f n K = end-fits text ls s v
+  gate-fits s (Fails r) f n K = end-fits text ls s (Halted r)

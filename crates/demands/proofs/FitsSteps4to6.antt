@@ -9,7 +9,8 @@ use borrow.Author.Tests.{lt-ltb, le-ltb}
 use Rattle.counts.specs.Counts.{configNumber}
 use Rattle.line.specs.declared.Line.{Line}
 use Rattle.bus.specs.Bus.{framed, writeOf, readOf}
-use Rattle.guide.specs.declared.Verdict.the-variants.{Done, Program, Mismatch}
+use Rattle.guide.specs.declared.Reason.the-variants.{Program}
+use Rattle.guide.specs.declared.Verdict.the-variants.{Done, Mismatch, Halted}
 use Rattle.guide.specs.declared.Polled.{Polled}
 use Rattle.guide.specs.declared.Polled.the-variants.{Busy, Passed, Failed}
 use Rattle.guide.specs.Plan.{done}
@@ -29,7 +30,7 @@ module _ (text : List ℕ) (ls : List Line) (s : Session) (K : Kept text ls (s .
     poll-again-fits : (left : ℕ) → s .position .polls + suc left ≡ s .settings .limit
         → Fits text ls s (RestOfGuide.statusRead (s .file) ls (s .settings) left) (pollAgainOf s)
     unfolding RestOfGuide.statusRead polls readOf pollAgainOf atPolls withPosition withStage withSent
-    poll-again-fits zero e = rw (le-ltb (s .position .polls + 1) (s .settings .limit) (omega arith)) (end-fits text ls s Program)
+    poll-again-fits zero e = rw (le-ltb (s .position .polls + 1) (s .settings .limit) (omega arith)) (end-fits text ls s (Halted Program))
     poll-again-fits (suc left) e =
         rw (lt-ltb (s .position .polls + 1) (s .settings .limit) (omega arith))
         (other-fits text ls s (withPosition s (atPolls (s .position) (s .position .polls + 1))) StatusRead _ _
@@ -42,7 +43,7 @@ module _ (text : List ℕ) (ls : List Line) (s : Session) (K : Kept text ls (s .
     polled-fits left Busy e = poll-again-fits left e
     polled-fits left Passed e =
         other-fits text ls s s BanksAt _ _ (s .file .lines + 8 + s .settings .limit) refl refl (omega arith) (banks-at c) (omega arith) K
-    polled-fits left Failed e = end-fits text ls s Program
+    polled-fits left Failed e = end-fits text ls s (Halted Program)
 
   -- ---- step 6
 

@@ -13,7 +13,7 @@ use Rattle.promise.proofs.Basics.{split}
 use Rattle.summary.specs.declared.FileAnswer.{FileAnswer}
 use Rattle.summary.specs.declared.FileAnswer.the-variants.{Accepted, Refused}
 use Rattle.image.specs.Check.{checkOf}
-use Rattle.summary.specs.Answers.{answerNumber}
+use Rattle.summary.specs.Answers.{answerTold}
 use Rattle.image.specs.Says.{summaryOf}
 use Rattle.image.specs.Meets.{numbered, Spelled, none, line, Meets}
 use Rattle.image.proofs.LinesAndBytes.{spelled-length}
@@ -167,5 +167,5 @@ headline S text rs b =
     (λ e. no-burn (rw e (refused-sends S text Setting rs)) b)
   where
     by-file : allowedOf S ≡ true → (a : FileAnswer) → checkOf text .answer ≡ a → MayBurn S text rs
-    by-file e Accepted h = burn-allowed S text rs (record { accepted = ap answerNumber h; allowed = e }) b
+    by-file e Accepted h = burn-allowed S text rs (record { accepted = ap (λ a. answerTold a .number) h; allowed = e }) b
     by-file e (Refused r) h = no-burn (rw (e, h) (refused-sends S text (File r) rs)) b

@@ -9,7 +9,8 @@ use Rattle.counts.specs.Counts.{configNumber}
 use Rattle.line.specs.declared.Line.{Line}
 use Rattle.summary.specs.declared.Summary.{Summary}
 use Rattle.bus.specs.Bus.{writeOf, wordBytes, pointTo, readData, readBlock}
-use Rattle.guide.specs.declared.Verdict.the-variants.{Banks, Mismatch}
+use Rattle.guide.specs.declared.Reason.the-variants.{Banks}
+use Rattle.guide.specs.declared.Verdict.the-variants.{Mismatch, Halted}
 use Rattle.guide.specs.Plan.{Plan, done, fileLine}
 use Rattle.guide.specs.Judged.{cleared, fitOf, banksRight}
 use Rattle.guide.specs.Guide.{put, write, read, step1, gate, step2, lineRequest, lines, polls, step4, step5, idIn, crcIn, verify, step6, guide}
@@ -29,7 +30,7 @@ module _ (file : Summary) (ls : List Line) (S : Settings) where
 
   -- step 5
   unfoldable pub banksRead : Plan
-  banksRead = read readData λ banks. cond (banksRight (file .configs) banks) (step6 file (S .restore)) (done Banks)
+  banksRead = read readData λ banks. cond (banksRight (file .configs) banks) (step6 file (S .restore)) (done (Halted Banks))
 
   unfoldable pub banksAt : Plan
   banksAt = write (pointTo 0x7F 0x00) banksRead

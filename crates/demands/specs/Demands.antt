@@ -8,7 +8,7 @@ use lib.Dec.{leb}
 use lib.ListN.{length, getD}
 use Rattle.image.specs.Says.{summaryOf}
 use Rattle.image.specs.Check.{checkOf}
-use Rattle.summary.specs.Answers.{answerNumber}
+use Rattle.summary.specs.Answers.{answerTold}
 use Rattle.bus.specs.declared.Request.{Request}
 use Rattle.bus.specs.Bus.{noRequest}
 use Rattle.guide.specs.declared.Verdict.{Verdict}
@@ -27,7 +27,7 @@ use Rattle.demands.specs.Runs.{sent, after, guideOf, bare, answerFor}
 
 -- the only hypotheses: the checker's number of this text is 0, and the settings are allowed
 pub record Premises (S : Settings) (text : List ℕ) : Type 0 where
-  pub accepted : answerNumber (checkOf text .answer) ≡ 0
+  pub accepted : answerTold (checkOf text .answer) .number ≡ 0
   pub allowed : allowedOf S ≡ true
 
 -- ---- demand 1, beside what the checker proves of every operation: a refused reply hands back the state it was given and a

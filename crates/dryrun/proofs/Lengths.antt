@@ -37,8 +37,8 @@ request-length q =
 pub report-length : (r : Report) → length (reportLine r) ≤ 64
 unfolding reportLine bytesOf
 report-length Waiting = omega arith
-report-length (Is number line config) =
-    simp length-append (omega (arith, decimal-length number, decimal-length (config .0), decimal-length (line .0)))
+report-length (Is t) =
+    simp length-append (omega (arith, decimal-length (t .number), decimal-length (t .config .0), decimal-length (t .line .0)))
 
 mark-length : (burned : Bool) → length (mark burned) ≤ 2
 unfolding mark bytesOf

@@ -28,8 +28,8 @@ requestLine q = verb (q .reads) ++ usedHex (q .bytes) (atMost8 (q .used)) ++ lin
 unfoldable pub reportLine : Report → List ℕ
 reportLine Waiting = bytesOf "waiting" ++ lineEnd
 -- verdict NUMBER config N line LINE
-reportLine (Is number line config) =
-    bytesOf "verdict " ++ decimal number ++ bytesOf " config " ++ decimal (config .0) ++ bytesOf " line " ++ decimal (line .0) ++ lineEnd
+reportLine (Is t) =
+    bytesOf "verdict " ++ decimal (t .number) ++ bytesOf " config " ++ decimal (t .config .0) ++ bytesOf " line " ++ decimal (t .line .0) ++ lineEnd
 
 unfoldable pub mark : Bool → List ℕ
 mark true = bytesOf "1" ++ lineEnd

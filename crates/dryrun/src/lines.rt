@@ -58,13 +58,13 @@ pub fn put_report(out: &mut [u8; 64], report: Report) -> usize
 {
     match report {
         Report::Waiting => put_bytes(out, 0, b"waiting\n"),
-        Report::Is(number, line, config) => {
+        Report::Is(told) => {
             let a = put_bytes(out, 0, b"verdict ");
-            let b = put_decimal(out, a, number as u32);
+            let b = put_decimal(out, a, told.number as u32);
             let c = put_bytes(out, b, b" config ");
-            let d = put_decimal(out, c, config.0 as u32);
+            let d = put_decimal(out, c, told.config.0 as u32);
             let e = put_bytes(out, d, b" line ");
-            let f = put_decimal(out, e, line.0);
+            let f = put_decimal(out, e, told.line.0);
             put_bytes(out, f, b"\n")
         }
     }

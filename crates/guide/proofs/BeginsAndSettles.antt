@@ -4,8 +4,9 @@ use mathlib.Core.Path.{_≡_, refl, ap}
 use mathlib.Core.List.{List, [], _∷_}
 use Prim.Native.Nat.{ℕ}
 use native.Mathlib.Omega.{arith}
+use Rattle.summary.specs.declared.Refusal.the-variants.{Line, Whole}
 use Rattle.guide.specs.declared.Verdict.{Verdict}
-use Rattle.guide.specs.declared.Verdict.the-variants.{Done, Setting, File, Nack, Shape, Pec, Counter, Identity, Flag, Old, OtherKind, Places, Program, Banks, Mismatch}
+use Rattle.guide.specs.declared.Verdict.the-variants.{Done, Setting, File, Mismatch, Halted}
 use Rattle.guide.specs.Plan.{Reply, Asked, Plan, ask, done, requests, verdict}
 use Rattle.guide.specs.Statements.{Begins, Settled, OnlyMismatch}
 
@@ -26,16 +27,7 @@ pub only-mismatch : (v : Verdict) → OnlyMismatch v
 unfolding OnlyMismatch
 only-mismatch Done h = refl
 only-mismatch Setting h = refl
-only-mismatch (File r) h = refl
-only-mismatch Nack h = refl
-only-mismatch Shape h = refl
-only-mismatch Pec h = refl
-only-mismatch Counter h = refl
-only-mismatch Identity h = refl
-only-mismatch Flag h = refl
-only-mismatch Old h = refl
-only-mismatch OtherKind h = refl
-only-mismatch Places h = refl
-only-mismatch Program h = refl
-only-mismatch Banks h = refl
+only-mismatch (File (Line n fault)) h = refl
+only-mismatch (File (Whole w)) h = refl
+only-mismatch (Halted r) h = refl
 only-mismatch (Mismatch N) h = absurd (h refl)

@@ -1,9 +1,9 @@
 -- Through steps 3 to 6, each before any rest, no replies but their exchanges lead to DONE. Assumes nothing.
-use mathlib.Core.Path.{_≡_, refl, ap}
+use mathlib.Core.Path.{_≡_, refl}
 use mathlib.Core.Logic.{_⊎_, inl, inr}
 use mathlib.Core.Bool.{Bool, true, false, cond}
 use mathlib.Core.List.{List, [], _∷_}
-use Prim.Native.Nat.{ℕ, zero, suc, _+_, _%_, _≤_, _<_}
+use Prim.Native.Nat.{ℕ, zero, suc, _+_, _%_, _<_}
 use native.Mathlib.Omega.{arith}
 use lib.Dec.{eqb}
 use lib.ListN.{length}
@@ -14,16 +14,16 @@ use Rattle.promise.proofs.Basics.{split}
 use Rattle.summary.specs.declared.Summary.{Summary}
 use Rattle.bus.specs.Bus.{framed, writeOf, pointTo, readData}
 use Rattle.guide.specs.declared.Verdict.{Verdict}
-use Rattle.guide.specs.declared.Verdict.the-variants.{Done, Program, Banks, Mismatch}
+use Rattle.guide.specs.declared.Verdict.the-variants.{Done, Mismatch, Halted}
+use Rattle.guide.specs.declared.Reason.the-variants.{Program, Banks}
 use Rattle.guide.specs.declared.Polled.the-variants.{Busy}
-use Rattle.guide.specs.Numbers.{verdictNumber}
 use Rattle.guide.specs.Judged.{banksRight}
 use Rattle.guide.specs.Plan.{Reply, Mark, other, fileLine, Plan, done, ended, verdict}
 use Rattle.guide.specs.Guide.{lineRequest, lines, polled, polls, step4, step5, crcIn, verify}
 use Rattle.guide.specs.Statements.{heard3, heard4, heard6}
 use Rattle.guide.proofs.Through.{Came, Through, here, then}
 use Rattle.guide.proofs.Statuses.{Clear, clear-more, busy-is, passed-is, failed-is}
-use Rattle.guide.proofs.Ways.{Keeps, bind, bind-write}
+use Rattle.guide.proofs.Ways.{Keeps, halted-not, bind, bind-write}
 
 abbrev pub NotDone : Plan → List Reply → Type 0
 NotDone p rs = verdict p rs ≡ ended Done → ⊥
@@ -34,7 +34,7 @@ not-done-keeps m =
     record {
       waits = λ q next e. let z : _≡_ {A = ℕ} 0 1 = cc in omega arith;
       back = λ q next r rs f. f;
-      ends = λ v rs h e. let d : v ≡ Done = cc in omega (arith, ap verdictNumber d);
+      ends = λ v rs h e. h cc;
     }
 
 abbrev keeps : Keeps other NotDone
@@ -49,8 +49,8 @@ module _ {C : Type 0} where
   lines-way i (l ∷ ls) rest rs go =
       bind-write (not-done-keeps (fileLine i)) _ _ rs refl λ r c. lines-way (i + 1) ls rest r λ last t. go last (then c t)
 
-  over-way : (rs : List Reply) → NotDone (done Program) rs ⊎ C
-  over-way rs = inl (keeps .ends Program rs (omega arith))
+  over-way : (rs : List Reply) → NotDone (done (Halted Program)) rs ⊎ C
+  over-way rs = inl (keeps .ends _ rs (halted-not Program))
 
   ruleset over = over-way
 
@@ -82,7 +82,7 @@ module _ {C : Type 0} where
   unfolding step4 writeOf framed
   step4-way limit rest rs go = bind-write keeps _ _ rs refl λ r c. polls-way limit rest r (go r c)
 
-  cond-way : (test : Bool) (v : Verdict) (rest : Plan) (rs : List Reply) → 1 ≤ verdictNumber v → (test ≡ true → NotDone rest rs ⊎ C)
+  cond-way : (test : Bool) (v : Verdict) (rest : Plan) (rs : List Reply) → (v ≡ Done → ⊥) → (test ≡ true → NotDone rest rs ⊎ C)
       → NotDone (cond test rest (done v)) rs ⊎ C
   cond-way true v rest rs h go = go refl
   cond-way false v rest rs h go = inl (keeps .ends v rs h)
@@ -93,7 +93,7 @@ module _ {C : Type 0} where
       → NotDone (step5 k rest) rs ⊎ C
   unfolding step5 writeOf framed
   step5-way k rest rs go =
-      bind-write keeps _ _ rs refl λ r c. bind keeps _ _ r λ w r2 c2. cond-way (banksRight k w) Banks rest r2 (omega arith) (go r c w r2 c2)
+      bind-write keeps _ _ rs refl λ r c. bind keeps _ _ r λ w r2 c2. cond-way (banksRight k w) (Halted Banks) rest r2 (halted-not Banks) (go r c w r2 c2)
 
   pub verify-way : (file : Summary) (restore left N : ℕ) (rs : List Reply) → ((last : List Reply) → Through (heard6 file restore left N) rs last → C)
       → NotDone (verify file restore left N) rs ⊎ C
@@ -101,5 +101,5 @@ module _ {C : Type 0} where
   verify-way file restore zero N rs go = inr (go rs here)
   verify-way file restore (suc left) N rs go =
       bind-write keeps _ _ rs refl λ r1 c1. bind-write keeps _ _ r1 refl λ r2 c2. bind keeps _ _ r2 λ crc r3 c3.
-      cond-way (eqb crc (crcIn file N)) (Mismatch (configNumber N)) _ r3 (omega arith) λ e.
+      cond-way (eqb crc (crcIn file N)) (Mismatch (configNumber N)) _ r3 (λ d. let z : _≡_ {A = ℕ} 0 1 = cc in omega arith) λ e.
       verify-way file restore left (N + 1) r3 λ last t. go last (then c1 (then c2 (then (rw (eqb-true crc (crcIn file N) e) at c3) t)))

@@ -12,8 +12,8 @@ use Rattle.counts.specs.declared.KindFound.{KindFound}
 use Rattle.counts.specs.declared.KindFound.the-variants.{Is, Unknown}
 use Rattle.promise.proofs.Basics.{split}
 use Rattle.summary.specs.declared.Summary.{Summary}
-use Rattle.guide.specs.declared.Verdict.{Verdict}
-use Rattle.guide.specs.declared.Verdict.the-variants.{Counter, Identity, Flag, Old, OtherKind, Places}
+use Rattle.guide.specs.declared.Reason.{Reason}
+use Rattle.guide.specs.declared.Reason.the-variants.{Counter, Identity, Flag, Old, OtherKind, Places}
 use Rattle.guide.specs.declared.Fit.the-variants.{Matched, Fails}
 use Rattle.guide.specs.Judged.{kindWanted, sameKind, fitKind, fitOf}
 use Rattle.guide.specs.Matched.{Fits}
@@ -49,7 +49,7 @@ is-wants kind counter flag e =
 
 -- ---- the judgement
 
-fails : {A : Type 0} (v : Verdict) → Fails v ≡ Matched → A
+fails : {A : Type 0} (r : Reason) → Fails r ≡ Matched → A
 fails v e = let z : _≡_ {A = ℕ} 0 1 = cc in absurd (let y : ⊥ = omega arith in y)
 
 same-kind : (kind : Kind) → sameKind kind kind ≡ true

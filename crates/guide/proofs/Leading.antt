@@ -11,7 +11,8 @@ use Rattle.counts.specs.Counts.{configNumber}
 use Rattle.line.specs.declared.Line.{Line}
 use Rattle.summary.specs.declared.Summary.{Summary}
 use Rattle.bus.specs.Bus.{pointTo, readData}
-use Rattle.guide.specs.declared.Verdict.the-variants.{Done, Banks, Mismatch}
+use Rattle.guide.specs.declared.Verdict.the-variants.{Done, Mismatch, Halted}
+use Rattle.guide.specs.declared.Reason.the-variants.{Banks}
 use Rattle.guide.specs.Judged.{polledOf, banksRight}
 use Rattle.guide.specs.Plan.{Plan, done}
 use Rattle.guide.specs.Guide.{lines, polled, polls, step4, step5, crcIn, verify}
@@ -45,7 +46,7 @@ module _ {p rest : Plan} {ys : List Exchange} (k : Leads rest ys p) where
 
   pub step5-leads : (k banks : ℕ) → banksRight k banks ≡ true → Leads (step5 k rest) (wrote (pointTo 0x7F 0x00) ∷ got readData banks ∷ ys) p
   unfolding step5
-  step5-leads n banks e = let l : Leads (cond (banksRight n banks) rest (done Banks)) ys p = rw e k in on _ (on _ l)
+  step5-leads n banks e = let l : Leads (cond (banksRight n banks) rest (done (Halted Banks))) ys p = rw e k in on _ (on _ l)
 
 pub verify-leads : (file : Summary) (restore left N : ℕ) → Leads (verify file restore left N) (heard6 file restore left N) (done Done)
 unfolding verify heard6

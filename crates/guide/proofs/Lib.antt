@@ -1,5 +1,4 @@
 pub mod JudgedExactly
-pub mod Fair
 pub mod BeginsAndSettles
 pub mod Banks
 pub mod FileFacts

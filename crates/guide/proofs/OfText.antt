@@ -9,7 +9,7 @@ use Rattle.cuts.specs.Lines.{linesOf}
 use Rattle.line.proofs.Spelling.{spells-values}
 use Rattle.summary.specs.declared.FileAnswer.the-variants.{Accepted}
 use Rattle.image.specs.Check.{checkOf}
-use Rattle.summary.specs.Answers.{answerNumber}
+use Rattle.summary.specs.Answers.{answerTold}
 use Rattle.image.specs.Meets.{numbered, Meets}
 use Rattle.image.proofs.LinesAndBytes.{spelled-length, spells-at}
 use Rattle.image.proofs.AcceptedExactly.{accepted-exactly}
@@ -38,7 +38,7 @@ module _ (text : List ℕ) (m : Meets text) where
       }
 
 pub accepted-facts : (text : List ℕ) → checkOf text .answer ≡ Accepted → FileFacts text
-accepted-facts text e = meets-facts text (accepted-exactly text .accepted-meets (ap answerNumber e))
+accepted-facts text e = meets-facts text (accepted-exactly text .accepted-meets (ap (λ a. answerTold a .number) e))
 
 -- ---- the theorems
 

@@ -4,8 +4,9 @@ use mathlib.Core.Path.{_≡_}
 use Prim.Native.Nat.{ℕ}
 use Rattle.counts.specs.declared.Kind.{Kind}
 use Rattle.line.specs.declared.Line.{Line}
+use Rattle.guide.specs.declared.Reason.{Reason}
 use Rattle.guide.specs.declared.Verdict.{Verdict}
-use Rattle.guide.specs.Numbers.{verdictConfig, verdictLine, verdictNumber}
+use Rattle.guide.specs.Numbers.{reasonNumber, verdictTold}
 use Rattle.guide.specs.Judged.{banksRight, cleared, fitOf, kindWanted, polledOf}
 use Rattle.guide.specs.Guide.{lineRequest}
 use Rattle.promise.specs.One.{One}
@@ -24,14 +25,11 @@ one-Polled-of status = one-answer _
 pub one-banks-right : (configs word : ℕ) → One (λ r. r ≡ banksRight configs word)
 one-banks-right configs word = one-answer _
 
-pub one-Verdict-number : (self : Verdict) → One (λ r. r ≡ verdictNumber self)
-one-Verdict-number self = one-answer _
+pub one-Reason-number : (self : Reason) → One (λ r. r ≡ reasonNumber self)
+one-Reason-number self = one-answer _
 
-pub one-Verdict-line : (self : Verdict) → One (λ r. r ≡ verdictLine self)
-one-Verdict-line self = one-answer _
-
-pub one-Verdict-config : (self : Verdict) → One (λ r. r ≡ verdictConfig self)
-one-Verdict-config self = one-answer _
+pub one-Verdict-told : (self : Verdict) → One (λ r. r ≡ verdictTold self)
+one-Verdict-told self = one-answer _
 
 pub one-cleared : (word : ℕ) → One (λ r. r ≡ cleared word)
 one-cleared word = one-answer _

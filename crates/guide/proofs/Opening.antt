@@ -16,8 +16,7 @@ use Rattle.guide.specs.Matched.{heard1, heard2, opening, Matched}
 use Rattle.guide.specs.Statements.{isLine, linesIn, openingCount}
 use Rattle.guide.proofs.JudgedExactly.{judged-exactly}
 use Rattle.guide.proofs.Through.{Through, here, then, through-both, answered, Leads, arrived, on, asksOf}
-use Rattle.guide.proofs.Ways.{Keeps, bind, bind-write}
-use Rattle.guide.proofs.Fair.{Fair, fails, fit-fair}
+use Rattle.guide.proofs.Ways.{Keeps, halted-not, bind, bind-write}
 
 abbrev pub fitFor : Summary → ℕ → ℕ → ℕ → ℕ → Fit
 fitFor file counter identity flag revision = fitOf (file .kind) (file .identity) (file .configs) 0 counter identity flag revision
@@ -42,10 +41,10 @@ matched-of file wanted captured counter identity flag revision t e =
     }
 
 module _ {C : Type 0} {S : Plan → List Reply → Type 0} (k : Keeps other S) where
-  gate-way : (x : Fit) (rest : Plan) (rs : List Reply) → Fair x → (x ≡ fit.Matched → S rest rs ⊎ C) → S (gate x rest) rs ⊎ C
+  gate-way : (x : Fit) (rest : Plan) (rs : List Reply) → (x ≡ fit.Matched → S rest rs ⊎ C) → S (gate x rest) rs ⊎ C
   unfolding gate
-  gate-way fit.Matched rest rs f go = go refl
-  gate-way (fit.Fails v) rest rs (fails _ h) go = inl (k .ends v rs h)
+  gate-way fit.Matched rest rs go = go refl
+  gate-way (fit.Fails r) rest rs go = inl (k .ends _ rs (halted-not r))
 
   step1-way : (rest : Plan) (rs : List Reply) → ((w : ℕ) (last : List Reply) → Through (heard1 w) rs last → S rest last ⊎ C)
       → S (step1 rest) rs ⊎ C
@@ -62,8 +61,7 @@ module _ {C : Type 0} {S : Plan → List Reply → Type 0} (k : Keeps other S) w
   step2-way file rest rs go =
       bind-write k _ _ rs refl λ r1 c1. bind k _ _ r1 λ counter r2 c2. bind k _ _ r2 λ identity r3 c3. bind-write k _ _ r3 refl λ r4 c4.
       bind k _ _ r4 λ flag r5 c5. bind k _ _ r5 λ revision r6 c6.
-      let fair = fit-fair (file .kind) (file .identity) (file .configs) 0 counter identity flag revision in
-      gate-way (fitFor file counter identity flag revision) rest r6 fair
+      gate-way (fitFor file counter identity flag revision) rest r6
       λ e. go counter identity flag revision r6 (then c1 (then c2 (then c3 (then c4 (then c5 (then c6 here)))))) e
 
   pub opening-way : (file : Summary) (wanted : Bool) (rest : Plan) (rs : List Reply)

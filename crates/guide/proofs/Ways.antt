@@ -4,7 +4,7 @@ use mathlib.Core.Path.{_≡_, refl}
 use mathlib.Core.Logic.{_⊎_, inl, inr, ⊎-elim}
 use mathlib.Core.Bool.{false}
 use mathlib.Core.List.{List, [], _∷_}
-use Prim.Native.Nat.{ℕ, _≤_}
+use Prim.Native.Nat.{ℕ}
 use native.Mathlib.Omega.{arith}
 use lib.Dec.{eqb, ltb}
 use lib.ListN.{length}
@@ -14,8 +14,9 @@ use Rattle.bus.specs.declared.ReplyForm.{ReplyForm}
 use Rattle.bus.specs.declared.ReplyForm.the-variants.{Unanswered, Misshapen, Miscoded, Good}
 use Rattle.bus.specs.ReplyForm.{doneForm, formOf}
 use Rattle.guide.specs.declared.Verdict.{Verdict}
-use Rattle.guide.specs.declared.Verdict.the-variants.{Nack, Shape, Pec}
-use Rattle.guide.specs.Numbers.{verdictNumber}
+use Rattle.guide.specs.declared.Verdict.the-variants.{Done, Halted}
+use Rattle.guide.specs.declared.Reason.{Reason}
+use Rattle.guide.specs.declared.Reason.the-variants.{Nack, Shape, Pec}
 use Rattle.guide.specs.Plan.{Reply, Mark, Plan, ask, done}
 use Rattle.guide.specs.Guide.{hear, put}
 use Rattle.guide.proofs.Through.{Came, came, asked}
@@ -24,7 +25,11 @@ use Rattle.guide.proofs.Through.{Came, came, asked}
 pub record Keeps (m : Mark) (S : Plan → List Reply → Type 0) : Type 0 where
   pub waits : (q : Request) (next : Reply → Plan) → S (ask (asked m q) next) []
   pub back : (q : Request) (next : Reply → Plan) (r : Reply) (rs : List Reply) → S (next r) rs → S (ask (asked m q) next) (r ∷ rs)
-  pub ends : (v : Verdict) (rs : List Reply) → 1 ≤ verdictNumber v → S (done v) rs
+  pub ends : (v : Verdict) (rs : List Reply) → (v ≡ Done → ⊥) → S (done v) rs
+
+-- a halted session is not done
+pub halted-not : (r : Reason) → Halted r ≡ Done → ⊥
+halted-not r e = let z : _≡_ {A = ℕ} 0 1 = cc in omega arith
 
 -- a write is answered with no word
 wrote-none : (q : Request) (w kind : ℕ) (bs : List ℕ) → q .reads ≡ false → formOf q kind bs ≡ Good w → w ≡ 0
@@ -44,13 +49,13 @@ module _ {C : Type 0} {m : Mark} {S : Plan → List Reply → Type 0} (k : Keeps
   bind q next [] f = inl (k .waits q _)
   bind q next (r ∷ rs) f = go (formOf q (r .kind) (r .bytes)) refl
     where
-      stays : (v : Verdict) → 1 ≤ verdictNumber v → hear (formOf q (r .kind) (r .bytes)) next ≡ done v → S (put m q next) (r ∷ rs) ⊎ C
-      stays v h e = inl (k .back q _ r rs (rw e (k .ends v rs h)))
+      stays : (why : Reason) → hear (formOf q (r .kind) (r .bytes)) next ≡ done (Halted why) → S (put m q next) (r ∷ rs) ⊎ C
+      stays why e = inl (k .back q _ r rs (rw e (k .ends _ rs (halted-not why))))
 
       go : (h : ReplyForm) → formOf q (r .kind) (r .bytes) ≡ h → S (put m q next) (r ∷ rs) ⊎ C
-      go Unanswered e = stays Nack (omega arith) (rw e)
-      go Misshapen e = stays Shape (omega arith) (rw e)
-      go Miscoded e = stays Pec (omega arith) (rw e)
+      go Unanswered e = stays Nack (rw e)
+      go Misshapen e = stays Shape (rw e)
+      go Miscoded e = stays Pec (rw e)
       go (Good w) e = ⊎-elim (λ s. inl (k .back q _ r rs (rw e s))) inr (f w rs (came r rs e))
 
   pub bind-write : (q : Request) (next : Plan) (rs : List Reply) → q .reads ≡ false

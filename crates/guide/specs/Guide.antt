@@ -17,7 +17,8 @@ use Rattle.bus.specs.declared.ReplyForm.{ReplyForm}
 use Rattle.bus.specs.declared.ReplyForm.the-variants.{Unanswered, Misshapen, Miscoded, Good}
 use Rattle.bus.specs.Bus.{framed, writeOf, wordBytes, pointTo, readData, readBlock}
 use Rattle.bus.specs.ReplyForm.{formOf}
-use Rattle.guide.specs.declared.Verdict.the-variants.{Done, Nack, Shape, Pec, Program, Banks, Mismatch}
+use Rattle.guide.specs.declared.Reason.the-variants.{Nack, Shape, Pec, Program, Banks}
+use Rattle.guide.specs.declared.Verdict.the-variants.{Done, Mismatch, Halted}
 use Rattle.guide.specs.declared.Fit.{Fit}
 use Rattle.guide.specs.declared.Fit.the-variants.{Matched, Fails}
 use Rattle.guide.specs.declared.Polled.{Polled}
@@ -27,9 +28,9 @@ use Rattle.guide.specs.Judged.{cleared, fitOf, polledOf, banksRight}
 
 -- 20 to 22 are tried at each reply, in order; one in form goes on with the word read
 unfoldable pub hear : ReplyForm → (ℕ → Plan) → Plan
-hear Unanswered next = done Nack
-hear Misshapen next = done Shape
-hear Miscoded next = done Pec
+hear Unanswered next = done (Halted Nack)
+hear Misshapen next = done (Halted Shape)
+hear Miscoded next = done (Halted Pec)
 hear (Good w) next = next w
 
 abbrev pub put : Mark → Request → (ℕ → Plan) → Plan
@@ -49,7 +50,7 @@ step1 rest =
 -- step 2: write C7 35 00; read C5: the counter. Read AD: identity. Write C7 87 BD; read C5: the flag. Read AE: revision
 unfoldable pub gate : Fit → Plan → Plan
 gate Matched rest = rest
-gate (Fails v) rest = done v
+gate (Fails r) rest = done (Halted r)
 
 unfoldable pub step2 : Summary → Plan → Plan
 step2 file rest =
@@ -79,10 +80,10 @@ step3 ls rest = lines 5 ls rest
 unfoldable pub polled : Polled → Plan → Plan → Plan
 polled Busy again rest = again
 polled Passed again rest = rest
-polled Failed again rest = done Program
+polled Failed again rest = done (Halted Program)
 
 unfoldable pub polls : ℕ → Plan → Plan
-polls zero rest = done Program
+polls zero rest = done (Halted Program)
 polls (suc left) rest = read readData λ status. polled (polledOf status) (polls left rest) rest
 
 unfoldable pub step4 : ℕ → Plan → Plan
@@ -90,7 +91,7 @@ step4 limit rest = write (pointTo 0x7E 0x00) (polls limit rest)
 
 -- step 5: write C7 7F 00; read C5: banks
 unfoldable pub step5 : ℕ → Plan → Plan
-step5 k rest = write (pointTo 0x7F 0x00) (read readData λ banks. cond (banksRight k banks) rest (done Banks))
+step5 k rest = write (pointTo 0x7F 0x00) (read readData λ banks. cond (banksRight k banks) rest (done (Halted Banks)))
 
 -- step 6, for N from 0: write RESTORE_CFG with one data byte, the identifier; write C7 94 00; read C5
 unfoldable pub idIn : Summary → ℕ → ℕ

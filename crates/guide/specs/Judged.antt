@@ -8,7 +8,7 @@ use Rattle.counts.specs.declared.Kind.the-variants.{Legacy, Production}
 use Rattle.counts.specs.declared.KindFound.{KindFound}
 use Rattle.counts.specs.declared.KindFound.the-variants.{Is, Unknown}
 use Rattle.counts.specs.Counts.{configNumber, bankOf}
-use Rattle.guide.specs.declared.Verdict.the-variants.{Counter, Identity, Flag, Old, OtherKind, Places}
+use Rattle.guide.specs.declared.Reason.the-variants.{Counter, Identity, Flag, Old, OtherKind, Places}
 use Rattle.guide.specs.declared.Fit.{Fit}
 use Rattle.guide.specs.declared.Fit.the-variants.{Matched, Fails}
 use Rattle.guide.specs.declared.Polled.{Polled}

@@ -19,7 +19,7 @@ use Rattle.bus.specs.ReplyForm.{formOf}
 use Rattle.guide.specs.declared.Verdict.{Verdict}
 use Rattle.guide.specs.declared.Verdict.the-variants.{Done}
 use Rattle.guide.specs.declared.Fit.the-variants as fit
-use Rattle.guide.specs.Numbers.{verdictNumber, verdictConfig}
+use Rattle.guide.specs.Numbers.{verdictTold}
 use Rattle.guide.specs.Judged.{fitOf, bank, bankIn}
 use Rattle.guide.specs.Plan.{Reply, Mark, other, fileLine, Asked, Plan, ended, requests, verdict}
 use Rattle.guide.specs.Guide.{lineRequest, idIn, crcIn, writeLinesOf, guideFor}
@@ -168,4 +168,4 @@ Settled p rs later =
 
 -- N is 0 unless the verdict is 31
 unfoldable pub OnlyMismatch : Verdict → Type 0
-OnlyMismatch v = (verdictNumber v ≡ 31 → ⊥) → verdictConfig v ≡ configNumber 0
+OnlyMismatch v = (verdictTold v .number ≡ 31 → ⊥) → verdictTold v .config ≡ configNumber 0

@@ -1,6 +1,6 @@
 // Step 2: whether the device is the one that the file is for, 23 to 28 in document 01's order.
 use crate::Fit;
-use crate::Verdict;
+use crate::Reason;
 use counts::Kind;
 use counts::KindFound;
 ghost use mathlib.Core.Path.{_≡_};
@@ -52,19 +52,19 @@ fn fit_kind(
     ensures { λ r. ⌜ r ≡ fitKind kind configs kept counter revision wanted ⌝ }
 {
     match wanted {
-        KindFound::Unknown => Fit::Fails(Verdict::Flag),
+        KindFound::Unknown => Fit::Fails(Reason::Flag),
         KindFound::Is(found) => {
             if revision / 16777216 < 6 {
-                return Fit::Fails(Verdict::Old);
+                return Fit::Fails(Reason::Old);
             }
             if same_kind(kind, found) {
                 if counter < configs as u32 + kept as u32 {
-                    Fit::Fails(Verdict::Places)
+                    Fit::Fails(Reason::Places)
                 } else {
                     Fit::Matched
                 }
             } else {
-                Fit::Fails(Verdict::OtherKind)
+                Fit::Fails(Reason::OtherKind)
             }
         }
     }
@@ -85,7 +85,7 @@ impl Fit {
         ensures { λ r. ⌜ r ≡ fitOf kind expected configs kept counter identity flag revision ⌝ }
     {
         if 28 < counter {
-            return Fit::Fails(Verdict::Counter);
+            return Fit::Fails(Reason::Counter);
         }
         if identity == expected {
             fit_kind(
@@ -97,7 +97,7 @@ impl Fit {
                 kind_wanted(counter, flag),
             )
         } else {
-            Fit::Fails(Verdict::Identity)
+            Fit::Fails(Reason::Identity)
         }
     }
 }

@@ -88,12 +88,12 @@ fn say_count(words: &[u8], number: u32) {
 fn say_report(report: Report) {
     match report {
         Report::Waiting => say(b"waiting"),
-        Report::Is(number, _, _) => {
-            if number == 0 {
+        Report::Is(told) => {
+            if told.number == 0 {
                 say(b"DONE");
             } else {
                 say(b"verdict ");
-                io::print_decimal(STDOUT_FILENO, number as u64);
+                io::print_decimal(STDOUT_FILENO, told.number as u64);
             }
         }
     }

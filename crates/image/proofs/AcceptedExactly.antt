@@ -12,14 +12,16 @@ use Rattle.line.specs.declared.Fault.{Fault}
 use Rattle.line.specs.declared.Fault.the-variants.{Char, Pairs, Length, Crc, Form}
 use Rattle.cuts.specs.Lines.{linesOf}
 use Rattle.line.specs.Reading.{faultNumber}
+use Rattle.summary.specs.declared.Whole.{Whole}
+use Rattle.summary.specs.declared.Whole.the-variants.{Size, Count, Revision, Device, Burn, Spot, Beyond, Same}
 use Rattle.summary.specs.declared.Refusal.{Refusal}
-use Rattle.summary.specs.declared.Refusal.the-variants.{Size, Line, Count, Revision, Device, Burn, Spot, Beyond, Same}
+use Rattle.summary.specs.declared.Refusal.the-variants as refusal
 use Rattle.summary.specs.declared.FileAnswer.{FileAnswer}
 use Rattle.summary.specs.declared.FileAnswer.the-variants.{Accepted, Refused}
 use Rattle.image.specs.Says.{kindIn, revisionSays, fileKind, fileConfigs}
 use Rattle.image.specs.Tests.{isUnknown, knownDevice, tooLong, tooFew, otherRevision, otherDevice, fitsNone}
 use Rattle.image.specs.Check.{checkOf}
-use Rattle.summary.specs.Answers.{refusalNumber, answerNumber}
+use Rattle.summary.specs.Answers.{wholeNumber, refusalTold, answerTold}
 use Rattle.image.specs.Meets.{dataIn, numbered, Meets, AcceptedExactly}
 use Rattle.image.proofs.Counting.{kind-has, count-is, inside}
 use Rattle.image.proofs.TestsPass.{Passed, passed, accepts, answer-is}
@@ -83,18 +85,21 @@ fault-some Length = lit< tt
 fault-some Crc = lit< tt
 fault-some Form = lit< tt
 
-refusal-some : (r : Refusal) → 0 < refusalNumber r
-refusal-some Size = lit< tt
-refusal-some (Line n f) = fault-some f
-refusal-some Count = lit< tt
-refusal-some Revision = lit< tt
-refusal-some Device = lit< tt
-refusal-some Burn = lit< tt
-refusal-some Spot = lit< tt
-refusal-some Beyond = lit< tt
-refusal-some Same = lit< tt
+whole-some : (w : Whole) → 0 < wholeNumber w
+whole-some Size = lit< tt
+whole-some Count = lit< tt
+whole-some Revision = lit< tt
+whole-some Device = lit< tt
+whole-some Burn = lit< tt
+whole-some Spot = lit< tt
+whole-some Beyond = lit< tt
+whole-some Same = lit< tt
 
-pub zero-accepts : (a : FileAnswer) → answerNumber a ≡ 0 → a ≡ Accepted
+refusal-some : (r : Refusal) → 0 < refusalTold r .number
+refusal-some (refusal.Line n f) = fault-some f
+refusal-some (refusal.Whole w) = whole-some w
+
+pub zero-accepts : (a : FileAnswer) → answerTold a .number ≡ 0 → a ≡ Accepted
 zero-accepts Accepted e = refl
 zero-accepts (Refused r) e = absurd (let y : ⊥ = omega (arith, refusal-some r) in y)
 
@@ -102,5 +107,5 @@ pub accepted-exactly : (s : List ℕ) → AcceptedExactly s
 accepted-exactly s =
     record {
       accepted-meets = λ e. meets (passed s (sym (answer-is s) ∙ zero-accepts (checkOf s .answer) e));
-      meets-accepted = λ m. ap answerNumber (answer-is s ∙ accepts (met m));
+      meets-accepted = λ m. ap (λ a. answerTold a .number) (answer-is s ∙ accepts (met m));
     }

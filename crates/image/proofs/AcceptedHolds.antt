@@ -9,8 +9,8 @@ use borrow.Author.Tests.{ltb-false, eqb-false}
 use Rattle.counts.specs.Counts.{configId}
 use Rattle.line.specs.declared.Line.{Line}
 use Rattle.cuts.specs.Lines.{linesOf}
-use Rattle.image.specs.declared.Told.{Told}
-use Rattle.image.specs.declared.Told.the-variants.{Whole, Bad}
+use Rattle.image.specs.declared.Walked.{Walked}
+use Rattle.image.specs.declared.Walked.the-variants.{Through, Bad}
 use Rattle.summary.specs.declared.FileAnswer.the-variants.{Accepted}
 use Rattle.image.specs.Says.{idOf, fileKind, fileConfigs, idLine, summaryOf}
 use Rattle.image.specs.Tests.{tooFew, fitsNone}
@@ -20,7 +20,7 @@ use Rattle.image.proofs.Holds.{Holds, BurnLast, Sound}
 use Rattle.image.proofs.SpotPlaces.{place-from, configs-le}
 use Rattle.image.proofs.Counting.{count-is}
 use Rattle.image.proofs.Eight.{eight-at}
-use Rattle.image.proofs.WalkSays.{saysOf, says-length, answerBy, told-first}
+use Rattle.image.proofs.WalkSays.{saysOf, says-length, answerBy, walked-first}
 use Rattle.image.proofs.FirstRefusal.{refused, read-lines}
 use Rattle.image.proofs.HeldLines.{holds-drop}
 use Rattle.image.proofs.WalkBurns.{burn-amiss, burns, burn-drop}
@@ -37,10 +37,10 @@ says-of s e = summary-is s (sym (answer-is s) ∙ e)
 -- the walk over good lines ends whole, so the text holds them
 holds-of : {s : List ℕ} → Passed s → Holds s 0 1 (saysOf (linesOf s))
 unfolding answerBy start firstRefusal
-holds-of {s} p = ended (factsFrom start (linesOf s)) refl (told-first start (linesOf s) [] ∙ rw append-nil (read-lines (linesOf s) 1 (p .reads)))
+holds-of {s} p = ended (factsFrom start (linesOf s)) refl (walked-first start (linesOf s) [] ∙ rw append-nil (read-lines (linesOf s) 1 (p .reads)))
   where
-    ended : (t : Told) → factsFrom start (linesOf s) ≡ t → answerBy t Accepted ≡ Accepted → Holds s 0 1 (saysOf (linesOf s))
-    ended (Whole g) w e = good s g w
+    ended : (t : Walked) → factsFrom start (linesOf s) ≡ t → answerBy t Accepted ≡ Accepted → Holds s 0 1 (saysOf (linesOf s))
+    ended (Through g) w e = good s g w
     ended (Bad r) w e = refused r e
 
 -- behind the four lines of the header

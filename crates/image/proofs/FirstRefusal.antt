@@ -12,6 +12,7 @@ use Rattle.line.specs.declared.Line.{Line}
 use Rattle.line.specs.declared.LineReading.{LineReading}
 use Rattle.line.specs.declared.LineReading.the-variants as reading
 use Rattle.line.specs.Reading.{readLine}
+use Rattle.summary.specs.declared.Whole.{Whole}
 use Rattle.summary.specs.declared.Refusal.{Refusal}
 use Rattle.summary.specs.declared.FileAnswer.{FileAnswer}
 use Rattle.summary.specs.declared.FileAnswer.the-variants.{Accepted, Refused}
@@ -39,10 +40,10 @@ append-first [] b e = refl
 append-first (Accepted ∷ a) b e = append-first a b e
 append-first (Refused r ∷ a) b e = refused r e
 
-pub passes : (test : Bool) (r : Refusal) → refusedIf test r ≡ Accepted → test ≡ false
+pub passes : (test : Bool) (w : Whole) → refusedIf test w ≡ Accepted → test ≡ false
 unfolding refusedIf
-passes true r e = refused r e
-passes false r e = refl
+passes true w e = refused _ e
+passes false w e = refl
 
 -- ---- the lines
 

@@ -17,7 +17,7 @@ use Rattle.line.specs.Reading.{readLine, nextBy, nextOf, nextLine}
 use Rattle.promise.proofs.Basics.{split}
 use Rattle.cuts.proofs.FirstLine.{lines-at, place-on, place-none}
 use Rattle.image.specs.declared.Facts.{Facts}
-use Rattle.image.specs.declared.Told.the-variants.{Whole}
+use Rattle.image.specs.declared.Walked.the-variants.{Through}
 use Rattle.image.specs.Private.Walk.{noLine, lineIn, factsWith, factsFrom, lineAt}
 use Rattle.image.proofs.Holds.{Holds}
 use Rattle.image.proofs.WalkSteps.{textAt, step-here, step-past}
@@ -31,7 +31,7 @@ module _ (s : List ℕ) where
       split (ltb at (length s)) (λ h. cc (lines-at s at (ltb-true at (length s) h)))
       (λ h. let z : [] ≡ l ∷ ls = rw (drop-of-length-le s (ltb-false at (length s) h)) at e in cc)
 
-  pub held : (ts : List (List ℕ)) (at : ℕ) (f g : Facts) → linesOf (drop at s) ≡ ts → factsFrom f ts ≡ Whole g →
+  pub held : (ts : List (List ℕ)) (at : ℕ) (f g : Facts) → linesOf (drop at s) ≡ ts → factsFrom f ts ≡ Through g →
       Holds s at (f .lines + 1) (saysOf ts)
   unfolding nextOf nextBy Holds factsWith saysOf
   held [] at f g e p = rw e

@@ -6,7 +6,7 @@ use Prim.Native.Nat.{ℕ, _+_, _<_}
 use lib.ListN.{length, getD}
 use Rattle.counts.specs.Counts.{lineNumber}
 use Rattle.cuts.specs.Lines.{linesOf}
-use Rattle.summary.specs.declared.Refusal.the-variants.{Size, Count, Revision, Device, Burn, Spot, Beyond, Same}
+use Rattle.summary.specs.declared.Whole.the-variants.{Size, Count, Revision, Device, Burn, Spot, Beyond, Same}
 use Rattle.summary.specs.declared.FileAnswer.{FileAnswer}
 use Rattle.summary.specs.declared.FileAnswer.the-variants.{Accepted, Refused}
 use Rattle.image.specs.Says.{summaryOf}

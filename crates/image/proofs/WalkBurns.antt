@@ -7,7 +7,7 @@ use native.Mathlib.Omega.{arith}
 use lib.ListN.{length, getD, drop}
 use Rattle.line.specs.declared.Line.{Line}
 use Rattle.image.specs.declared.Facts.{Facts}
-use Rattle.image.specs.declared.Told.the-variants.{Whole}
+use Rattle.image.specs.declared.Walked.the-variants.{Through}
 use Rattle.image.specs.Says.{lineNo}
 use Rattle.summary.specs.Burn.{isBurn}
 use Rattle.image.specs.Tests.{someBelow, burnAt, burnAmiss}
@@ -22,7 +22,7 @@ unfoldable pub factsOf : Facts → List Line → Facts
 factsOf f [] = f
 factsOf f (l ∷ ls) = factsOf (factsWith f l) ls
 
-pub facts-are : (ts : List (List ℕ)) (f g : Facts) → factsFrom f ts ≡ Whole g → g ≡ factsOf f (saysOf ts)
+pub facts-are : (ts : List (List ℕ)) (f g : Facts) → factsFrom f ts ≡ Through g → g ≡ factsOf f (saysOf ts)
 unfolding factsFrom factsOf saysOf
 facts-are [] f g p = cc
 facts-are (t ∷ ts) f g p = facts-are ts (factsWith f (lineSays t)) g (goes f g t ts p .rest)

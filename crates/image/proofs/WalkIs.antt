@@ -14,33 +14,34 @@ use Rattle.counts.specs.declared.KindFound.the-variants.{Is, Unknown}
 use Rattle.counts.specs.Counts.{lineNumber, kindOf, configsOf}
 use Rattle.cuts.specs.Lines.{linesOf}
 use Rattle.image.specs.declared.Facts.{Facts}
-use Rattle.image.specs.declared.Told.{Told}
-use Rattle.image.specs.declared.Told.the-variants.{Whole, Bad}
-use Rattle.summary.specs.declared.Refusal.{Refusal}
-use Rattle.summary.specs.declared.Refusal.the-variants.{Size, Count, Revision, Device, Burn, Spot, Beyond, Same}
+use Rattle.image.specs.declared.Walked.{Walked}
+use Rattle.image.specs.declared.Walked.the-variants.{Through, Bad}
+use Rattle.summary.specs.declared.Whole.{Whole}
+use Rattle.summary.specs.declared.Whole.the-variants.{Size, Count, Revision, Device, Burn, Spot, Beyond, Same}
+use Rattle.summary.specs.declared.Refusal.the-variants as refusal
 use Rattle.summary.specs.declared.FileAnswer.{FileAnswer}
 use Rattle.summary.specs.declared.Checked.{Checked}
 use Rattle.image.specs.Says.{kindIn, lineNo, revisionSays, fileKind, fileConfigs}
 use Rattle.image.specs.Tests.{knownDevice, isUnknown, tooLong, tooFew, otherRevision, otherDevice, fitsNone, burnAmiss, beyond, otherSpot, sameIds}
 use Rattle.image.specs.Check.{refusedIf, firstRefusal, lineAnswers, wholeAnswers, answerOf, checkedAs, checkOf}
 use Rattle.image.specs.Private.Walk.{start, factsFrom, spotsTo}
-use Rattle.image.specs.Private.Cascade.{refusedBy, onSpots, onConfigs, onKind, onFacts, onTold}
+use Rattle.image.specs.Private.Cascade.{refusedBy, onSpots, onConfigs, onKind, onFacts, onWalked}
 use Rattle.image.proofs.SpotPlaces.{configs-le}
-use Rattle.image.proofs.WalkSays.{answerBy, told-first}
+use Rattle.image.proofs.WalkSays.{answerBy, walked-first}
 use Rattle.image.proofs.WalkKeeps.{line-no, count, burn, other-spot, same-ids, said, not-beyond}
 
-stage : (s : List ℕ) (t : Bool) (r : Refusal) {x : Checked} (more : List FileAnswer) → (t ≡ false → x ≡ checkedAs s (firstRefusal more)) →
-    cond t (refusedBy r) x ≡ checkedAs s (firstRefusal (refusedIf t r ∷ more))
+stage : (s : List ℕ) (t : Bool) (w : Whole) {x : Checked} (more : List FileAnswer) → (t ≡ false → x ≡ checkedAs s (firstRefusal more)) →
+    cond t (refusedBy (refusal.Whole w)) x ≡ checkedAs s (firstRefusal (refusedIf t w ∷ more))
 unfolding refusedBy checkedAs firstRefusal refusedIf
-stage s true r more on = refl
-stage s false r more on = on refl
+stage s true w more on = refl
+stage s false w more on = on refl
 
 -- where the test is that something is there
-stage-not : (s : List ℕ) (t : Bool) (r : Refusal) {x : Checked} (more : List FileAnswer) → x ≡ checkedAs s (firstRefusal more) →
-    cond t x (refusedBy r) ≡ checkedAs s (firstRefusal (refusedIf (not t) r ∷ more))
+stage-not : (s : List ℕ) (t : Bool) (w : Whole) {x : Checked} (more : List FileAnswer) → x ≡ checkedAs s (firstRefusal more) →
+    cond t x (refusedBy (refusal.Whole w)) ≡ checkedAs s (firstRefusal (refusedIf (not t) w ∷ more))
 unfolding refusedBy checkedAs firstRefusal refusedIf
-stage-not s true r more on = on
-stage-not s false r more on = refl
+stage-not s true w more on = on
+stage-not s false w more on = refl
 
 -- the list from a test on
 module _ (ls : List (List ℕ)) where
@@ -65,7 +66,7 @@ module _ (ls : List (List ℕ)) where
   abbrev fromRevision : List FileAnswer
   fromRevision = refusedIf (otherRevision ls) Revision ∷ fromDevice
 
-module _ (s : List ℕ) (g : Facts) (whole : factsFrom start (linesOf s) ≡ Whole g) where
+module _ (s : List ℕ) (g : Facts) (whole : factsFrom start (linesOf s) ≡ Through g) where
   on-spots : (kind : Kind) → fileKind (linesOf s) ≡ kind → (k : ℕ) → fileConfigs (linesOf s) ≡ k → k ≤ 8 →
       onSpots s g kind k (spotsTo kind s k) ≡ checkedAs s (firstRefusal (fromSpot (linesOf s)))
   unfolding onSpots firstRefusal
@@ -112,18 +113,18 @@ module _ (s : List ℕ) (g : Facts) (whole : factsFrom start (linesOf s) ≡ Who
       on-kind (omega (arith, ltb-false (length (linesOf s)) 13 e)) _ (ap (λ (l : Line). kindOf (l .d0)) (sym (line-no s g whole 2 (omega arith))))))
 
 -- 2 to 6
-on-told : (s : List ℕ) (t : Told) → factsFrom start (linesOf s) ≡ t → onTold s t ≡ checkedAs s (answerBy t (firstRefusal (wholeAnswers (linesOf s))))
-unfolding onTold answerBy refusedBy checkedAs
-on-told s (Whole g) e = on-facts s g e
-on-told s (Bad r) e = refl
+on-walked : (s : List ℕ) (t : Walked) → factsFrom start (linesOf s) ≡ t → onWalked s t ≡ checkedAs s (answerBy t (firstRefusal (wholeAnswers (linesOf s))))
+unfolding onWalked answerBy refusedBy checkedAs
+on-walked s (Through g) e = on-facts s g e
+on-walked s (Bad r) e = refl
 
--- the walk's answer: 1, then what it was told
+-- the walk's answer: 1, then where it came to
 unfoldable pub walkOf : List ℕ → Checked
-walkOf s = cond (ltb 65536 (length s)) (refusedBy Size) (onTold s (factsFrom start (linesOf s)))
+walkOf s = cond (ltb 65536 (length s)) (refusedBy (refusal.Whole Size)) (onWalked s (factsFrom start (linesOf s)))
 
 pub walk-is : (s : List ℕ) → walkOf s ≡ checkOf s
 unfolding walkOf checkOf answerOf tooLong start
 walk-is s =
     let all = lineAnswers 1 (linesOf s) ++ wholeAnswers (linesOf s) in
     stage s (ltb 65536 (length s)) Size all (λ e.
-    on-told s (factsFrom start (linesOf s)) refl ∙ ap (checkedAs s) (told-first start (linesOf s) (wholeAnswers (linesOf s))))
+    on-walked s (factsFrom start (linesOf s)) refl ∙ ap (checkedAs s) (walked-first start (linesOf s) (wholeAnswers (linesOf s))))

@@ -13,7 +13,7 @@ use Rattle.counts.specs.Counts.{lineNumber, configNumber, configId, lineCount, 
 use Rattle.line.specs.declared.Line.{Line}
 use Rattle.cuts.specs.Lines.{linesOf, placeOf}
 use Rattle.image.specs.declared.Facts.{Facts}
-use Rattle.image.specs.declared.Told.the-variants.{Whole}
+use Rattle.image.specs.declared.Walked.the-variants.{Through}
 use Rattle.summary.specs.declared.FileAnswer.the-variants.{Accepted}
 use Rattle.summary.specs.declared.Checked.{Checked}
 use Rattle.image.specs.Says.{identityOf, idOf, crcOf, lineNo, fileKind, fileConfigs, idLine, configCrcLine, eightOf, summaryOf}
@@ -29,7 +29,7 @@ use Rattle.image.proofs.HeldLines.{held, line-is}
 use Rattle.image.proofs.WalkBurns.{facts-are, lines-of, burn-amiss}
 use Rattle.image.proofs.WalkSpots.{amiss-is, ids-are, crcs-are, same-is}
 
-module _ (s : List ℕ) (g : Facts) (whole : factsFrom start (linesOf s) ≡ Whole g) where
+module _ (s : List ℕ) (g : Facts) (whole : factsFrom start (linesOf s) ≡ Through g) where
   pub good : Holds s 0 1 (saysOf (linesOf s))
   unfolding start
   good = held s (linesOf s) 0 start g refl whole

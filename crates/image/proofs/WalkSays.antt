@@ -16,8 +16,8 @@ use Rattle.line.specs.declared.LineReading.the-variants.{Good, Refused}
 use Rattle.line.specs.Digits.{digitVal, allDigits, valuesOf}
 use Rattle.line.specs.Reading.{lineOf, badPairs, lengthRight, crcRight, formRight, readValues, readDigits, readLine}
 use Rattle.image.specs.declared.Facts.{Facts}
-use Rattle.image.specs.declared.Told.{Told}
-use Rattle.image.specs.declared.Told.the-variants.{Whole, Bad}
+use Rattle.image.specs.declared.Walked.{Walked}
+use Rattle.image.specs.declared.Walked.the-variants.{Through, Bad}
 use Rattle.summary.specs.declared.FileAnswer.{FileAnswer}
 use Rattle.summary.specs.declared.FileAnswer.the-variants as answer
 use Rattle.image.specs.Check.{firstRefusal, lineAnswer, lineAnswers}
@@ -66,35 +66,35 @@ good-says n t l e =
 module _ (f g : Facts) (t : List ℕ) (ts : List (List ℕ)) where
   pub record Goes : Type 0 where
     pub reads : readLine (lineNumber (f .lines + 1)) t ≡ Good (lineSays t)
-    pub rest : factsFrom (factsWith f (lineSays t)) ts ≡ Whole g
+    pub rest : factsFrom (factsWith f (lineSays t)) ts ≡ Through g
 
-  goes-by : (r : LineReading) → readLine (lineNumber (f .lines + 1)) t ≡ r → factsBy f r (λ h. factsFrom h ts) ≡ Whole g → Goes
+  goes-by : (r : LineReading) → readLine (lineNumber (f .lines + 1)) t ≡ r → factsBy f r (λ h. factsFrom h ts) ≡ Through g → Goes
   unfolding factsBy
   goes-by (Good m) q p =
       let e : m ≡ lineSays t = good-says (lineNumber (f .lines + 1)) t m q in
       record { reads = q ∙ ap Good e; rest = rw e at p }
   goes-by (Refused h) q p = let z : _≡_ {A = ℕ} 0 1 = cc in absurd (let y : ⊥ = omega arith in y)
 
-  pub goes : factsFrom f (t ∷ ts) ≡ Whole g → Goes
+  pub goes : factsFrom f (t ∷ ts) ≡ Through g → Goes
   unfolding factsFrom
   goes p = goes-by _ refl p
 
 -- ---- the walk's end is the first refusal of the lines' answers
-unfoldable pub answerBy : Told → FileAnswer → FileAnswer
-answerBy (Whole g) a = a
+unfoldable pub answerBy : Walked → FileAnswer → FileAnswer
+answerBy (Through g) a = a
 answerBy (Bad r) a = answer.Refused r
 
-told-by : (f : Facts) (ts : List (List ℕ)) (more : List FileAnswer) (r : LineReading) →
+walked-by : (f : Facts) (ts : List (List ℕ)) (more : List FileAnswer) (r : LineReading) →
     ((g : Facts) → g .lines ≡ f .lines + 1 → answerBy (factsFrom g ts) (firstRefusal more) ≡ firstRefusal (lineAnswers (f .lines + 1 + 1) ts ++ more)) →
     answerBy (factsBy f r (λ h. factsFrom h ts)) (firstRefusal more)
     ≡ firstRefusal (lineAnswer (lineNumber (f .lines + 1)) r ∷ (lineAnswers (f .lines + 1 + 1) ts ++ more))
 unfolding factsBy factsWith answerBy firstRefusal lineAnswer
-told-by f ts more (Good l) on = on (factsWith f l) refl
-told-by f ts more (Refused h) on = refl
+walked-by f ts more (Good l) on = on (factsWith f l) refl
+walked-by f ts more (Refused h) on = refl
 
-pub told-first : (f : Facts) (ts : List (List ℕ)) (more : List FileAnswer) →
+pub walked-first : (f : Facts) (ts : List (List ℕ)) (more : List FileAnswer) →
     answerBy (factsFrom f ts) (firstRefusal more) ≡ firstRefusal (lineAnswers (f .lines + 1) ts ++ more)
 unfolding factsFrom answerBy lineAnswers
-told-first f [] more = refl
-told-first f (t ∷ ts) more =
-    told-by f ts more (readLine (lineNumber (f .lines + 1)) t) (λ g e. rw (← e) (told-first g ts more))
+walked-first f [] more = refl
+walked-first f (t ∷ ts) more =
+    walked-by f ts more (readLine (lineNumber (f .lines + 1)) t) (λ g e. rw (← e) (walked-first g ts more))

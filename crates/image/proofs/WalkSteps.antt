@@ -19,8 +19,8 @@ use Rattle.line.specs.Reading.{readLine, nextBy, nextOf, nextLine}
 use Rattle.promise.proofs.Basics.{split}
 use Rattle.cuts.proofs.FirstLine.{lineLen, lines-at, next-within, next-after}
 use Rattle.image.specs.declared.Facts.{Facts}
-use Rattle.image.specs.declared.Told.{Told}
-use Rattle.image.specs.declared.Told.the-variants.{Whole, Bad}
+use Rattle.image.specs.declared.Walked.{Walked}
+use Rattle.image.specs.declared.Walked.the-variants.{Through, Bad}
 use Rattle.summary.specs.declared.Refusal.the-variants as refusal
 use Rattle.image.specs.Private.Walk.{factsWith, factsBy, factsFrom}
 
@@ -39,8 +39,8 @@ module _ (s : List ℕ) (at : ℕ) (n : LineNumber) where
   step-past h = rw (drop-of-length-le s h)
 
 -- what a reading's step says of the facts, where `on` gives those of the lines that follow
-module _ (f : Facts) (k : ℕ) (on : Facts → Told) where
-  end-by : (r : LineReading) → nextBy r k ≡ End → factsBy f r on ≡ Whole f
+module _ (f : Facts) (k : ℕ) (on : Facts → Walked) where
+  end-by : (r : LineReading) → nextBy r k ≡ End → factsBy f r on ≡ Through f
   unfolding nextBy
   end-by (Good l) e = cc
   end-by (Refused h) e = cc
@@ -63,7 +63,7 @@ module _ (f : Facts) (s : List ℕ) (at : ℕ) where
   abbrev n : LineNumber
   n = lineNumber (f .lines + 1)
 
-  pub facts-end : nextLine n at s ≡ End → factsFrom f (linesOf (drop at s)) ≡ Whole f
+  pub facts-end : nextLine n at s ≡ End → factsFrom f (linesOf (drop at s)) ≡ Through f
   unfolding factsFrom linesOf
   facts-end e =
       ⊎-elim (λ h. rw (drop-of-length-le s h))

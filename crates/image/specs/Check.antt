@@ -9,8 +9,9 @@ use Rattle.line.specs.declared.LineReading.{LineReading}
 use Rattle.line.specs.declared.LineReading.the-variants as reading
 use Rattle.cuts.specs.Lines.{linesOf}
 use Rattle.line.specs.Reading.{readLine}
-use Rattle.summary.specs.declared.Refusal.{Refusal}
-use Rattle.summary.specs.declared.Refusal.the-variants.{Size, Line, Count, Revision, Device, Burn, Spot, Beyond, Same}
+use Rattle.summary.specs.declared.Whole.{Whole}
+use Rattle.summary.specs.declared.Whole.the-variants.{Size, Count, Revision, Device, Burn, Spot, Beyond, Same}
+use Rattle.summary.specs.declared.Refusal.the-variants as refusal
 use Rattle.summary.specs.declared.FileAnswer.{FileAnswer}
 use Rattle.summary.specs.declared.FileAnswer.the-variants.{Accepted, Refused}
 use Rattle.summary.specs.declared.Checked.{Checked}
@@ -20,9 +21,9 @@ use Rattle.image.specs.Tests.{tooLong, tooFew, otherRevision, otherDevic
 
 -- ---- the order
 
-unfoldable pub refusedIf : Bool → Refusal → FileAnswer
-refusedIf true r = Refused r
-refusedIf false r = Accepted
+unfoldable pub refusedIf : Bool → Whole → FileAnswer
+refusedIf true w = Refused (refusal.Whole w)
+refusedIf false w = Accepted
 
 unfoldable pub firstRefusal : List FileAnswer → FileAnswer
 firstRefusal [] = Accepted
@@ -32,7 +33,7 @@ firstRefusal (Refused r ∷ more) = Refused r
 -- a line's own answer, 2 to 6
 unfoldable pub lineAnswer : LineNumber → LineReading → FileAnswer
 lineAnswer n (reading.Good l) = Accepted
-lineAnswer n (reading.Refused fault) = Refused (Line n fault)
+lineAnswer n (reading.Refused fault) = Refused (refusal.Line n fault)
 
 -- those of all lines, the first of which has the number n
 unfoldable pub lineAnswers : ℕ → List (List ℕ) → List FileAnswer

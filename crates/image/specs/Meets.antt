@@ -11,7 +11,7 @@ use Rattle.cuts.specs.Lines.{linesOf}
 use Rattle.line.specs.LineForm.{Spells, LineForm}
 use Rattle.image.specs.Says.{word}
 use Rattle.image.specs.Check.{checkOf}
-use Rattle.summary.specs.Answers.{answerNumber}
+use Rattle.summary.specs.Answers.{answerTold}
 use Rattle.image.specs.Parts.{parts}
 
 -- the revision's first byte, the kind, its step s and its CRC place c
@@ -80,8 +80,8 @@ pub record Meets (s : List ℕ) : Type 0 where
 -- ---- the statement: a file's number is 0 if and only if it is what it must be
 
 pub record AcceptedExactly (s : List ℕ) : Type 0 where
-  pub accepted-meets : answerNumber (checkOf s .answer) ≡ 0 → Meets s
-  pub meets-accepted : Meets s → answerNumber (checkOf s .answer) ≡ 0
+  pub accepted-meets : answerTold (checkOf s .answer) .number ≡ 0 → Meets s
+  pub meets-accepted : Meets s → answerTold (checkOf s .answer) .number ≡ 0
 
 -- ---- the statement: what the summary says of such a file, by the same bytes
 

@@ -7,10 +7,11 @@ mod says;
 mod walk;
 
 use counts::ConfigId;
-use order::on_told;
+use order::on_walked;
 use order::refused_by;
 use summary::Checked;
 use summary::Refusal;
+use summary::Whole;
 use walk::facts_of;
 ghost use mathlib.Core.Path.{_≡_};
 ghost use Rattle.image.specs.Check.{checkOf};
@@ -23,8 +24,8 @@ struct Facts {
 }
 
 // The walk's end: every line is good, or the refusal of the first that is not.
-enum Told {
-    Whole(Facts),
+enum Walked {
+    Through(Facts),
     Bad(Refusal),
 }
 
@@ -46,10 +47,10 @@ pub fn check(text: &[u8]) -> Checked
     ensures { λ r. ⌜ r ≡ checkOf (now (text .entry)) ⌝ }
 {
     if 65536 < text.len() {
-        refused_by(Refusal::Size)
+        refused_by(Refusal::Whole(Whole::Size))
     } else {
         let digits = line::digits();
         let table = pec::table();
-        on_told(&digits, &table, text, facts_of(&digits, &table, text))
+        on_walked(&digits, &table, text, facts_of(&digits, &table, text))
     }
 }

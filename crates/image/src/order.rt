@@ -1,7 +1,7 @@
 // The tests of the whole file in the order of document 01, "Numbers for a file".
 use crate::Facts;
 use crate::Spots;
-use crate::Told;
+use crate::Walked;
 use crate::config_lines::line_at;
 use crate::config_lines::same_in;
 use crate::config_lines::spots_of;
@@ -15,11 +15,12 @@ use summary::Checked;
 use summary::FileAnswer;
 use summary::Refusal;
 use summary::Summary;
+use summary::Whole;
 ghost use mathlib.Core.Path.{_≡_};
 ghost use Prim.Native.Nat.{_≤_};
 ghost use Rattle.pec.specs.Lent.{IsTable};
 ghost use Rattle.line.specs.Digits.{IsDigits};
-ghost use Rattle.image.specs.Private.Cascade.{refusedBy, burnAmissIn, lastBeyond, onSpots, onConfigs, onKind, onFacts, onTold};
+ghost use Rattle.image.specs.Private.Cascade.{refusedBy, burnAmissIn, lastBeyond, onSpots, onConfigs, onKind, onFacts, onWalked};
 
 // A refused file says nothing.
 pub(crate) fn refused_by(refusal: Refusal) -> Checked
@@ -48,9 +49,9 @@ fn on_spots(
     let crcs = spots.crcs;
     let same = same_in(ids, k as usize);
     if spots.amiss {
-        refused_by(Refusal::Spot)
+        refused_by(Refusal::Whole(Whole::Spot))
     } else if same {
-        refused_by(Refusal::Same)
+        refused_by(Refusal::Whole(Whole::Same))
     } else {
         let first_line = line_at(digits, table, s, 0, LineNumber(1));
         Checked {
@@ -97,11 +98,11 @@ fn on_configs(
     ensures { λ r. ⌜ r ≡ onConfigs (now (s .entry)) f kind k ⌝ }
 {
     if k == 0 {
-        refused_by(Refusal::Count)
+        refused_by(Refusal::Whole(Whole::Count))
     } else if burn_amiss(f) {
-        refused_by(Refusal::Burn)
+        refused_by(Refusal::Whole(Whole::Burn))
     } else if beyond(kind, k, f.lines) {
-        refused_by(Refusal::Beyond)
+        refused_by(Refusal::Whole(Whole::Beyond))
     } else {
         let spots = spots_of(digits, table, s, kind, k as usize);
         on_spots(digits, table, s, f, kind, k, spots)
@@ -114,12 +115,12 @@ fn on_kind(digits: &[u8; 256], table: &[u8; 256], s: &[u8], f: Facts, found: Kin
     ensures { λ r. ⌜ r ≡ onKind (now (s .entry)) f found ⌝ }
 {
     match found {
-        KindFound::Unknown => refused_by(Refusal::Revision),
+        KindFound::Unknown => refused_by(Refusal::Whole(Whole::Revision)),
         KindFound::Is(kind) => {
             if known_device(line_at(digits, table, s, 0, LineNumber(1))) {
                 on_configs(digits, table, s, f, kind, kind.configs(f.lines))
             } else {
-                refused_by(Refusal::Device)
+                refused_by(Refusal::Whole(Whole::Device))
             }
         }
     }
@@ -131,7 +132,7 @@ fn on_facts(digits: &[u8; 256], table: &[u8; 256], s: &[u8], f: Facts) -> Checke
     ensures { λ r. ⌜ r ≡ onFacts (now (s .entry)) f ⌝ }
 {
     if f.lines < 13 {
-        refused_by(Refusal::Count)
+        refused_by(Refusal::Whole(Whole::Count))
     } else {
         let second = line_at(digits, table, s, cuts::skip(s, 0, 1), LineNumber(2));
         on_kind(digits, table, s, f, Kind::of_revision(second.d0))
@@ -139,12 +140,12 @@ fn on_facts(digits: &[u8; 256], table: &[u8; 256], s: &[u8], f: Facts) -> Checke
 }
 
 // 2 to 6, handed on, or the tests of the whole file.
-pub(crate) fn on_told(digits: &[u8; 256], table: &[u8; 256], s: &[u8], told: Told) -> Checked
+pub(crate) fn on_walked(digits: &[u8; 256], table: &[u8; 256], s: &[u8], walked: Walked) -> Checked
     requires { ⌜ IsDigits (now digits) × IsTable (now table) ⌝ }
-    ensures { λ r. ⌜ r ≡ onTold (now (s .entry)) told ⌝ }
+    ensures { λ r. ⌜ r ≡ onWalked (now (s .entry)) walked ⌝ }
 {
-    match told {
-        Told::Whole(f) => on_facts(digits, table, s, f),
-        Told::Bad(refusal) => refused_by(refusal),
+    match walked {
+        Walked::Through(f) => on_facts(digits, table, s, f),
+        Walked::Bad(refusal) => refused_by(refusal),
     }
 }

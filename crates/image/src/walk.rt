@@ -1,6 +1,6 @@
 // The pass over the lines: each good line is taken out, and the first faulty one's refusal is handed on.
 use crate::Facts;
-use crate::Told;
+use crate::Walked;
 use counts::LineNumber;
 use line::Line;
 use line::NextLine;
@@ -35,7 +35,7 @@ fn facts_with(f: Facts, l: Line) -> Facts
 }
 
 // The facts of all lines, or the refusal of the first faulty one.
-pub(crate) fn facts_of(digits: &[u8; 256], table: &[u8; 256], s: &[u8]) -> Told
+pub(crate) fn facts_of(digits: &[u8; 256], table: &[u8; 256], s: &[u8]) -> Walked
     requires { ⌜ (IsDigits (now digits) × IsTable (now table)) × (length (now s) ≤ 65536) ⌝ }
     ensures { λ r. ⌜ r ≡ factsFrom start (linesOf (now (s .entry))) ⌝ }
 {
@@ -50,14 +50,14 @@ pub(crate) fn facts_of(digits: &[u8; 256], table: &[u8; 256], s: &[u8]) -> Told
         let found = line::read_at(digits, table, s, at, n);
         match found {
             NextLine::End => {
-                return Told::Whole(facts);
+                return Walked::Through(facts);
             }
             NextLine::Took(line, next) => {
                 facts = facts_with(facts, line);
                 at = next;
             }
             NextLine::Stopped(fault) => {
-                return Told::Bad(Refusal::Line(n, fault));
+                return Walked::Bad(Refusal::Line(n, fault));
             }
         }
     }

@@ -2,7 +2,7 @@
 ghost use mathlib.Core.Path.{_≡_};
 ghost use Rattle.pec.specs.Pec.{pec};
 ghost use Rattle.image.specs.Check.{checkOf};
-ghost use Rattle.summary.specs.Answers.{answerNumber};
+ghost use Rattle.summary.specs.Answers.{answerTold};
 
 // The PEC of some bytes.
 #[no_mangle]
@@ -15,9 +15,10 @@ pub extern "C" fn tehilgam_pec(bytes: &[u8]) -> u8
 // The refusal number of a file, 0 if accepted.
 #[no_mangle]
 pub extern "C" fn tehilgam_refusal(text: &[u8]) -> u8
-    ensures { λ r. ⌜ r ≡ answerNumber (checkOf (now (text .entry)) .answer) ⌝ }
+    ensures { λ r. ⌜ r ≡ answerTold (checkOf (now (text .entry)) .answer) .number ⌝ }
 {
     let checked = image::check(text);
     let answer = checked.answer;
-    answer.number()
+    let told = answer.told();
+    told.number
 }

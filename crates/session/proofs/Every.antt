@@ -18,7 +18,8 @@ use Rattle.summary.specs.Burn.{isBurn}
 use Rattle.bus.specs.Bus.{pointTo}
 use Rattle.bus.specs.declared.Request.{Request}
 use Rattle.guide.specs.declared.Verdict.{Verdict}
-use Rattle.guide.specs.declared.Verdict.the-variants.{Done, Program, Banks, Mismatch}
+use Rattle.guide.specs.declared.Reason.the-variants.{Program, Banks}
+use Rattle.guide.specs.declared.Verdict.the-variants.{Done, Mismatch, Halted}
 use Rattle.guide.specs.declared.Fit.{Fit}
 use Rattle.guide.specs.declared.Fit.the-variants.{Matched, Fails}
 use Rattle.guide.specs.declared.Polled.{Polled}
@@ -90,14 +91,14 @@ module _ (text : List ℕ) (s : Session) (word : ℕ) (P : Awaited → Handed �
   fit-every : (f : Fit) → fitHeld s word ≡ f → P RevisionRead (fitDoneOf text s f)
   unfolding fitDoneOf fitHeld
   fit-every Matched e = line-every RevisionRead _ (first (judged-exactly (s .file) (s .position .counter) (s .position .identity) (s .position .flag) word .matches e))
-  fit-every (Fails v) e = ends RevisionRead v
+  fit-every (Fails r) e = ends RevisionRead (Halted r)
 
   polled-every : (p : Polled) → P StatusRead (polledDoneOf s p)
   unfolding polledDoneOf pollAgainOf
   polled-every Busy =
-      by (P StatusRead) (ltb (s .position .polls + 1) (s .settings .limit)) _ _ (λ e. puts StatusRead _ (kept-moved s _) _ _) (λ e. ends StatusRead Program)
+      by (P StatusRead) (ltb (s .position .polls + 1) (s .settings .limit)) _ _ (λ e. puts StatusRead _ (kept-moved s _) _ _) (λ e. ends StatusRead (Halted Program))
   polled-every Passed = puts StatusRead s (kept s) _ _
-  polled-every Failed = ends StatusRead Program
+  polled-every Failed = ends StatusRead (Halted Program)
 
   restore-every : (g : Awaited) (N : ConfigNumber) → P g (restoreOf s N)
   unfolding restoreOf
@@ -106,8 +107,8 @@ module _ (text : List ℕ) (s : Session) (word : ℕ) (P : Awaited → Handed �
   banks-every : P BanksRead (banksDoneOf s word)
   unfolding banksDoneOf
   banks-every =
-      by (P BanksRead) (banksRight (s .file .configs) word) (restoreOf s (configNumber 0)) (endOf s Banks) (λ e. restore-every BanksRead _)
-      (λ e. ends BanksRead Banks)
+      by (P BanksRead) (banksRight (s .file .configs) word) (restoreOf s (configNumber 0)) (endOf s (Halted Banks)) (λ e. restore-every BanksRead _)
+      (λ e. ends BanksRead (Halted Banks))
 
   crc-every : P CrcRead (crcDoneOf s word)
   unfolding crcDoneOf restoreNextOf

@@ -3,19 +3,20 @@ use Prim.Native.Nat.{ℕ}
 use mathlib.Core.Path.{_≡_, refl, sym, ap, _∙_}
 use mathlib.Core.List.{List}
 use native.Mathlib.Omega.{arith}
-use Rattle.counts.specs.declared.LineNumber.{LineNumber}
-use Rattle.counts.specs.declared.ConfigNumber.{ConfigNumber}
 use Rattle.line.specs.declared.Fault.{Fault}
 use Rattle.line.specs.declared.Fault.the-variants.{Char, Pairs, Length, Crc, Form}
 use Rattle.line.specs.Reading.{faultNumber}
 use Rattle.promise.proofs.Basics.{split}
+use Rattle.summary.specs.declared.Told.{Told}
 use Rattle.summary.specs.declared.Summary.{Summary}
+use Rattle.summary.specs.declared.Whole.{Whole}
+use Rattle.summary.specs.declared.Whole.the-variants.{Size, Count, Revision, Device, Burn, Spot, Beyond, Same}
 use Rattle.summary.specs.declared.Refusal.{Refusal}
-use Rattle.summary.specs.declared.Refusal.the-variants.{Size, Line, Count, Revision, Device, Burn, Spot, Beyond, Same}
+use Rattle.summary.specs.declared.Refusal.the-variants as refusal
 use Rattle.summary.specs.declared.FileAnswer.{FileAnswer}
 use Rattle.summary.specs.declared.FileAnswer.the-variants.{Accepted, Refused}
 use Rattle.image.specs.Check.{checkOf}
-use Rattle.summary.specs.Answers.{refusalNumber}
+use Rattle.summary.specs.Answers.{wholeNumber, refusalTold}
 use Rattle.session.specs.declared.Settings.{Settings}
 use Rattle.session.specs.declared.Report.the-variants.{Waiting, Is}
 use Rattle.session.specs.Reports.{reportOf}
@@ -35,31 +36,34 @@ fault-not Length e = absurd (let y : ⊥ = omega arith in y)
 fault-not Crc e = absurd (let y : ⊥ = omega arith in y)
 fault-not Form e = absurd (let y : ⊥ = omega arith in y)
 
-refusal-not : {A : Type 0} (r : Refusal) → refusalNumber r ≡ 14 → A
-refusal-not Size e = absurd (let y : ⊥ = omega arith in y)
-refusal-not (Line n fault) e = fault-not fault e
-refusal-not Count e = absurd (let y : ⊥ = omega arith in y)
-refusal-not Revision e = absurd (let y : ⊥ = omega arith in y)
-refusal-not Device e = absurd (let y : ⊥ = omega arith in y)
-refusal-not Burn e = absurd (let y : ⊥ = omega arith in y)
-refusal-not Spot e = absurd (let y : ⊥ = omega arith in y)
-refusal-not Beyond e = absurd (let y : ⊥ = omega arith in y)
-refusal-not Same e = absurd (let y : ⊥ = omega arith in y)
+whole-not : {A : Type 0} (w : Whole) → wholeNumber w ≡ 14 → A
+whole-not Size e = absurd (let y : ⊥ = omega arith in y)
+whole-not Count e = absurd (let y : ⊥ = omega arith in y)
+whole-not Revision e = absurd (let y : ⊥ = omega arith in y)
+whole-not Device e = absurd (let y : ⊥ = omega arith in y)
+whole-not Burn e = absurd (let y : ⊥ = omega arith in y)
+whole-not Spot e = absurd (let y : ⊥ = omega arith in y)
+whole-not Beyond e = absurd (let y : ⊥ = omega arith in y)
+whole-not Same e = absurd (let y : ⊥ = omega arith in y)
+
+refusal-not : {A : Type 0} (r : Refusal) → refusalTold r .number ≡ 14 → A
+refusal-not (refusal.Line n fault) e = fault-not fault e
+refusal-not (refusal.Whole w) e = whole-not w e
 
 module _ (S : Settings) where
-  answered-not : {A : Type 0} (f : Summary) (a : FileAnswer) (l : LineNumber) (N : ConfigNumber) → reportOf (answeredOf S f a .answer) ≡ Is 14 l N → A
+  answered-not : {A : Type 0} (f : Summary) (a : FileAnswer) (t : Told) → reportOf (answeredOf S f a .answer) ≡ Is t → t .number ≡ 14 → A
   unfolding answeredOf refusedOf overOf reportOf
-  answered-not f Accepted l N e =
-      let w : Waiting ≡ Is 14 l N = sym (ap reportOf (started S f)) ∙ e in
+  answered-not f Accepted t e n =
+      let w : Waiting ≡ Is t = sym (ap reportOf (started S f)) ∙ e in
       let z : _≡_ {A = ℕ} 0 1 = cc in absurd (let y : ⊥ = omega arith in y)
-  answered-not f (Refused r) l N e = refusal-not r (cc)
+  answered-not f (Refused r) t e n = let same : refusalTold r ≡ t = cc in refusal-not r (ap (λ (x : Told). x .number) same ∙ n)
 
 module _ (S : Settings) (text : List ℕ) where
   pub fourteen-exactly : FourteenExactly S text
   unfolding refusedOf overOf reportOf
   fourteen-exactly =
       record {
-        only = λ l N e.
-            split (allowedOf S) (λ a. answered-not S (checkOf text .summary) (checkOf text .answer) l N (rw (← begun S text a) at e)) (refused-out S);
+        only = λ t e n.
+            split (allowedOf S) (λ a. answered-not S (checkOf text .summary) (checkOf text .answer) t (rw (← begun S text a) at e) n) (refused-out S);
         when = λ o. rw (← begin-not S text (out-refused S o)) refl;
       }

@@ -7,7 +7,8 @@ use Rattle.bus.specs.declared.ReplyForm.{ReplyForm}
 use Rattle.bus.specs.declared.ReplyForm.the-variants.{Unanswered, Misshapen, Miscoded, Good}
 use Rattle.bus.specs.Bus.{writeOf, wordBytes, pointTo, readData}
 use Rattle.bus.specs.ReplyForm.{formOf}
-use Rattle.guide.specs.declared.Verdict.the-variants.{Nack, Shape, Pec}
+use Rattle.guide.specs.declared.Reason.the-variants.{Nack, Shape, Pec}
+use Rattle.guide.specs.declared.Verdict.the-variants.{Halted}
 use Rattle.guide.specs.Judged.{cleared}
 use Rattle.session.specs.declared.Session.{Session}
 use Rattle.session.specs.declared.Handed.{Handed}
@@ -43,9 +44,9 @@ followOf text s CrcRead w = crcDoneOf s w
 
 -- 20 to 22 are tried at each reply, in order
 unfoldable pub repliedOf : List ℕ → Session → Awaited → ReplyForm → Handed
-repliedOf text s g Unanswered = endOf s Nack
-repliedOf text s g Misshapen = endOf s Shape
-repliedOf text s g Miscoded = endOf s Pec
+repliedOf text s g Unanswered = endOf s (Halted Nack)
+repliedOf text s g Misshapen = endOf s (Halted Shape)
+repliedOf text s g Miscoded = endOf s (Halted Pec)
 repliedOf text s g (Good w) = followOf text s g w
 
 -- a state with a verdict is not examined further

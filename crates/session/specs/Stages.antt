@@ -7,7 +7,8 @@ use lib.Dec.{eqb, ltb}
 use Rattle.counts.specs.declared.ConfigNumber.{ConfigNumber}
 use Rattle.counts.specs.Counts.{configNumber, firstLine}
 use Rattle.bus.specs.Bus.{writeOf, pointTo, readData, readBlock}
-use Rattle.guide.specs.declared.Verdict.the-variants.{Done, Program, Banks, Mismatch}
+use Rattle.guide.specs.declared.Reason.the-variants.{Program, Banks}
+use Rattle.guide.specs.declared.Verdict.the-variants.{Done, Mismatch, Halted}
 use Rattle.guide.specs.declared.Fit.{Fit}
 use Rattle.guide.specs.declared.Fit.the-variants.{Matched, Fails}
 use Rattle.guide.specs.declared.Polled.{Polled}
@@ -50,7 +51,7 @@ flagDoneOf s w = putOf (withPosition s (atFlag (s .position) w)) RevisionRead (r
 -- 23 to 28 are tried after the AE reply; where none applies, line 5 is due
 unfoldable pub fitDoneOf : List ℕ → Session → Fit → Handed
 fitDoneOf text s Matched = putLineOf text s firstLine
-fitDoneOf text s (Fails v) = endOf s v
+fitDoneOf text s (Fails r) = endOf s (Halted r)
 
 -- no place of the device is kept free
 unfoldable pub fitHeld : Session → ℕ → Fit
@@ -66,12 +67,12 @@ unfoldable pub pollAgainOf : Session → Handed
 pollAgainOf s =
     cond (ltb (s .position .polls + 1) (s .settings .limit))
     (putOf (withPosition s (atPolls (s .position) (s .position .polls + 1))) StatusRead readData)
-    (endOf s Program)
+    (endOf s (Halted Program))
 
 unfoldable pub polledDoneOf : Session → Polled → Handed
 polledDoneOf s Busy = pollAgainOf s
 polledDoneOf s Passed = putOf s BanksAt (pointTo 0x7F 0x00)
-polledDoneOf s Failed = endOf s Program
+polledDoneOf s Failed = endOf s (Halted Program)
 
 unfoldable pub statusDoneOf : Session → ℕ → Handed
 statusDoneOf s w = polledDoneOf s (polledOf w)
@@ -82,7 +83,7 @@ unfoldable pub restoreOf : Session → ConfigNumber → Handed
 restoreOf s N = putOf (withPosition s (atConfig (s .position) N)) Restore (writeOf (s .settings .restore) (idIn (s .file) (N .0) ∷ []))
 
 unfoldable pub banksDoneOf : Session → ℕ → Handed
-banksDoneOf s w = cond (banksRight (s .file .configs) w) (restoreOf s (configNumber 0)) (endOf s Banks)
+banksDoneOf s w = cond (banksRight (s .file .configs) w) (restoreOf s (configNumber 0)) (endOf s (Halted Banks))
 
 unfoldable pub restoreNextOf : Session → Handed
 restoreNextOf s =

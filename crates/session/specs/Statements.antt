@@ -6,11 +6,12 @@ use mathlib.Core.List.{List}
 use mathlib.Core.Bool.{true, false}
 use lib.ListN.{getD}
 use Rattle.counts.specs.declared.LineNumber.{LineNumber}
-use Rattle.counts.specs.declared.ConfigNumber.{ConfigNumber}
-use Rattle.counts.specs.Counts.{lineNumber, configNumber, configId, lineCount}
+use Rattle.counts.specs.Counts.{lineNumber, configId, lineCount}
 use Rattle.line.specs.declared.Line.{Line}
 use Rattle.line.specs.declared.NextLine.the-variants.{Took}
 use Rattle.line.specs.Reading.{nextLine}
+use Rattle.summary.specs.declared.Told.{Told}
+use Rattle.summary.specs.Answers.{plain}
 use Rattle.summary.specs.Burn.{isBurn}
 use Rattle.bus.specs.Bus.{noRequest}
 use Rattle.bus.specs.ReplyForm.{formOf}
@@ -128,8 +129,8 @@ pub record Begun (h : Handed) : Type 0 where
 module _ (S : Settings) (text : List ℕ) where
   -- 14 exactly where a setting is out of its range, whatever the file; with line 0 and N 0
   pub record FourteenExactly : Type 0 where
-    pub only : (l : LineNumber) (N : ConfigNumber) → reportOf (beginOf S text .answer) ≡ Is 14 l N → SettingOut S
-    pub when : SettingOut S → reportOf (beginOf S text .answer) ≡ Is 14 (lineNumber 0) (configNumber 0)
+    pub only : (t : Told) → reportOf (beginOf S text .answer) ≡ Is t → t .number ≡ 14 → SettingOut S
+    pub when : SettingOut S → reportOf (beginOf S text .answer) ≡ Is (plain 14)
 
   unfoldable pub BeginsSo : Type 0
   BeginsSo = Begun (beginOf S text)

@@ -1,8 +1,7 @@
-// The document's number, line and N of an answer.
+// What is told of an answer, in the document's numbers.
 use crate::Answer;
 use crate::Report;
-use counts::ConfigNumber;
-use counts::LineNumber;
+use summary::Told;
 ghost use mathlib.Core.Path.{_≡_};
 ghost use Rattle.session.specs.Reports.{reportOf};
 
@@ -13,8 +12,8 @@ impl Answer {
     {
         match self {
             Answer::Next => Report::Waiting,
-            Answer::Over(verdict) => Report::Is(verdict.number(), verdict.line(), verdict.config()),
-            Answer::BadState => Report::Is(15, LineNumber(0), ConfigNumber(0)),
+            Answer::Over(verdict) => Report::Is(verdict.told()),
+            Answer::BadState => Report::Is(Told::plain(15)),
         }
     }
 }

@@ -12,6 +12,7 @@ use counts::ConfigNumber;
 use counts::LineNumber;
 use guide::Verdict;
 use summary::Summary;
+use summary::Told;
 
 pub struct Settings {
     // Whether step 1 is wanted.
@@ -56,10 +57,10 @@ pub enum Answer {
     BadState,
 }
 
-// An answer in document 01's numbers: none stands yet, or number, line and N.
+// An answer in document 01's numbers: none stands yet, or what is told of it.
 pub enum Report {
     Waiting,
-    Is(u8, LineNumber, ConfigNumber),
+    Is(Told),
 }
 
 // Where the session is in the file and with the device, and what it has read.

@@ -6,6 +6,7 @@ use crate::Session;
 use crate::Stage;
 use bus::Bus;
 use bus::ReplyForm;
+use guide::Reason;
 use guide::Verdict;
 ghost use mathlib.Core.Path.{_≡_};
 ghost use Rattle.session.specs.Moves.{overOf};
@@ -48,9 +49,9 @@ impl Session {
         ensures { λ r. ⌜ r ≡ repliedOf (now (text .entry)) self awaited form ⌝ }
     {
         match form {
-            ReplyForm::Unanswered => self.end(Verdict::Nack),
-            ReplyForm::Misshapen => self.end(Verdict::Shape),
-            ReplyForm::Miscoded => self.end(Verdict::Pec),
+            ReplyForm::Unanswered => self.end(Verdict::Halted(Reason::Nack)),
+            ReplyForm::Misshapen => self.end(Verdict::Halted(Reason::Shape)),
+            ReplyForm::Miscoded => self.end(Verdict::Halted(Reason::Pec)),
             ReplyForm::Good(word) => self.follow(text, awaited, word),
         }
     }

@@ -7,6 +7,7 @@ use counts::ConfigNumber;
 use counts::LineNumber;
 use guide::Fit;
 use guide::Polled;
+use guide::Reason;
 use guide::Verdict;
 ghost use mathlib.Core.Path.{_≡_};
 ghost use Prim.Native.Nat.{_<_};
@@ -66,7 +67,7 @@ impl Session {
         );
         match fit {
             Fit::Matched => self.put_line(text, LineNumber::first_write()),
-            Fit::Fails(verdict) => self.end(verdict),
+            Fit::Fails(reason) => self.end(Verdict::Halted(reason)),
         }
     }
 
@@ -82,7 +83,7 @@ impl Session {
             self.moved(p)
                 .put(Awaited::StatusRead, Bus::read(Bus::DATA, 5))
         } else {
-            self.end(Verdict::Program)
+            self.end(Verdict::Halted(Reason::Program))
         }
     }
 
@@ -95,7 +96,7 @@ impl Session {
         match polled {
             Polled::Busy => self.poll_again(),
             Polled::Passed => self.put(Awaited::BanksAt, Bus::point(Bus::BANKS)),
-            Polled::Failed => self.end(Verdict::Program),
+            Polled::Failed => self.end(Verdict::Halted(Reason::Program)),
         }
     }
 
@@ -121,7 +122,7 @@ impl Session {
         if guide::banks_right(self.file.configs, word) {
             self.restore(ConfigNumber(0))
         } else {
-            self.end(Verdict::Banks)
+            self.end(Verdict::Halted(Reason::Banks))
         }
     }
 

@@ -9,7 +9,7 @@ use Rattle.counts.specs.declared.Kind.the-variants.{Legacy, Production}
 use Rattle.counts.specs.Counts.{configId}
 use Rattle.summary.specs.declared.Refusal.{Refusal}
 use Rattle.summary.specs.declared.Summary.{Summary}
-use Rattle.summary.specs.Answers.{refusalNumber, refusalLine}
+use Rattle.summary.specs.Answers.{refusalTold}
 use Rattle.text.specs.Text.{bytesOf}
 use Rattle.text.proofs.Laws.{digits-length, decimal-length}
 use Rattle.shown.specs.Shown.{kindName, rowOf, rowsTo, headOf, acceptedText, refusedText}
@@ -35,7 +35,7 @@ head-length s =
 
 pub refused-length : (r : Refusal) → length (refusedText r) ≤ 136
 unfolding refusedText bytesOf
-refused-length r = simp length-append (omega (arith, decimal-length (refusalNumber r), decimal-length (refusalLine r .0)))
+refused-length r = simp length-append (omega (arith, decimal-length (refusalTold r .number), decimal-length (refusalTold r .line .0)))
 
 pub accepted-length : (s : Summary) → s .configs ≤ 8 → length (acceptedText s) ≤ 136
 unfolding acceptedText

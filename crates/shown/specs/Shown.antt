@@ -11,7 +11,7 @@ use Rattle.summary.specs.declared.FileAnswer.{FileAnswer}
 use Rattle.summary.specs.declared.FileAnswer.the-variants.{Accepted, Refused}
 use Rattle.summary.specs.declared.Summary.{Summary}
 use Rattle.image.specs.Check.{checkOf}
-use Rattle.summary.specs.Answers.{refusalNumber, refusalLine}
+use Rattle.summary.specs.Answers.{refusalTold}
 use Rattle.text.specs.Text.{bytesOf, space, lineEnd, hex, decimal}
 
 unfoldable pub kindName : Kind → List ℕ
@@ -38,7 +38,7 @@ acceptedText s = headOf s ++ rowsTo s (s .configs)
 -- refused NUMBER line LINE
 unfoldable pub refusedText : Refusal → List ℕ
 refusedText r =
-    bytesOf "refused " ++ decimal (refusalNumber r) ++ bytesOf " line " ++ decimal (refusalLine r .0) ++ lineEnd
+    bytesOf "refused " ++ decimal (refusalTold r .number) ++ bytesOf " line " ++ decimal (refusalTold r .line .0) ++ lineEnd
 
 unfoldable pub answerText : FileAnswer → Summary → List ℕ
 answerText Accepted s = acceptedText s

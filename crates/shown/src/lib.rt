@@ -79,11 +79,11 @@ fn put_refused(out: &mut [u8], r: Refusal) -> usize
     requires { ⌜ 136 ≤ length (now out) ⌝ }
     ensures { λ q. ⌜ Puts (now (out .entry)) 0 (refusedText r) (now (out .exit)) q ⌝ }
 {
+    let told = r.told();
     let a = put_bytes(out, 0, b"refused ");
-    let b = put_decimal(out, a, r.number() as u32);
+    let b = put_decimal(out, a, told.number as u32);
     let c = put_bytes(out, b, b" line ");
-    let line = r.line();
-    let d = put_decimal(out, c, line.0);
+    let d = put_decimal(out, c, told.line.0);
     put_bytes(out, d, b"\n")
 }
 

@@ -2,24 +2,26 @@
 -- of these to the source. Assumes nothing.
 use mathlib.Core.Path.{_≡_}
 use Rattle.line.specs.declared.Line.{Line}
+use Prim.Native.Nat.{ℕ}
+use Rattle.summary.specs.declared.Whole.{Whole}
 use Rattle.summary.specs.declared.Refusal.{Refusal}
-use Rattle.summary.specs.Answers.{noSummary, answerLine, answerNumber, refusalLine, refusalNumber}
+use Rattle.summary.specs.Answers.{plain, wholeNumber, refusalTold, answerTold, noSummary}
 use Rattle.summary.specs.Burn.{isBurn}
 use Rattle.summary.specs.declared.FileAnswer.{FileAnswer}
 use Rattle.promise.specs.One.{One}
 use Rattle.promise.proofs.Equal.{one-answer}
 
-pub one-Refusal-number : (self : Refusal) → One (λ r. r ≡ refusalNumber self)
-one-Refusal-number self = one-answer _
+pub one-Told-plain : (number : ℕ) → One (λ r. r ≡ plain number)
+one-Told-plain number = one-answer _
 
-pub one-Refusal-line : (self : Refusal) → One (λ r. r ≡ refusalLine self)
-one-Refusal-line self = one-answer _
+pub one-Whole-number : (self : Whole) → One (λ r. r ≡ wholeNumber self)
+one-Whole-number self = one-answer _
 
-pub one-FileAnswer-number : (self : FileAnswer) → One (λ r. r ≡ answerNumber self)
-one-FileAnswer-number self = one-answer _
+pub one-Refusal-told : (self : Refusal) → One (λ r. r ≡ refusalTold self)
+one-Refusal-told self = one-answer _
 
-pub one-FileAnswer-line : (self : FileAnswer) → One (λ r. r ≡ answerLine self)
-one-FileAnswer-line self = one-answer _
+pub one-FileAnswer-told : (self : FileAnswer) → One (λ r. r ≡ answerTold self)
+one-FileAnswer-told self = one-answer _
 
 pub one-Summary-none : One (λ r. r ≡ noSummary)
 one-Summary-none = one-answer _

@@ -1,49 +1,47 @@
--- The document's number and line for each answer to a file (document 01, "Numbers for a file"), and the summary of a refused one.
+-- What is told of each answer to a file, in the document's numbers (document 01, "Numbers for a file"), and the summary of a refused one.
 -- Assumes nothing.
 use Prim.Native.Nat.{ℕ}
 use lib.ListN.{replicate}
 use Rattle.counts.specs.declared.LineNumber.{LineNumber}
+use Rattle.counts.specs.declared.ConfigNumber.{ConfigNumber}
 use Rattle.counts.specs.declared.Kind.the-variants.{Legacy}
-use Rattle.counts.specs.Counts.{lineNumber, configId}
+use Rattle.counts.specs.Counts.{lineNumber, configNumber, configId}
 use Rattle.line.specs.Reading.{faultNumber}
+use Rattle.summary.specs.declared.Whole.{Whole}
+use Rattle.summary.specs.declared.Whole.the-variants.{Size, Count, Revision, Device, Burn, Spot, Beyond, Same}
 use Rattle.summary.specs.declared.Refusal.{Refusal}
-use Rattle.summary.specs.declared.Refusal.the-variants.{Size, Line, Count, Revision, Device, Burn, Spot, Beyond, Same}
+use Rattle.summary.specs.declared.Refusal.the-variants as refusal
 use Rattle.summary.specs.declared.FileAnswer.{FileAnswer}
 use Rattle.summary.specs.declared.FileAnswer.the-variants.{Accepted, Refused}
+use Rattle.summary.specs.declared.Told.{Told}
 use Rattle.summary.specs.declared.Summary.{Summary}
 
--- the document's numbers
-abbrev pub refusalNumber : Refusal → ℕ
-refusalNumber Size = 1
-refusalNumber (Line n fault) = faultNumber fault
-refusalNumber Count = 7
-refusalNumber Revision = 8
-refusalNumber Device = 9
-refusalNumber Burn = 10
-refusalNumber Spot = 11
-refusalNumber Beyond = 12
-refusalNumber Same = 13
+abbrev pub told : ℕ → LineNumber → ConfigNumber → Told
+told number line config = record { number = number; line = line; config = config }
+
+-- no line and no N: both are 0
+abbrev pub plain : ℕ → Told
+plain number = told number (lineNumber 0) (configNumber 0)
+
+abbrev pub wholeNumber : Whole → ℕ
+wholeNumber Size = 1
+wholeNumber Count = 7
+wholeNumber Revision = 8
+wholeNumber Device = 9
+wholeNumber Burn = 10
+wholeNumber Spot = 11
+wholeNumber Beyond = 12
+wholeNumber Same = 13
 
 -- the line is 0 for 1 and 7 to 13
-abbrev pub refusalLine : Refusal → LineNumber
-refusalLine Size = lineNumber 0
-refusalLine (Line n fault) = n
-refusalLine Count = lineNumber 0
-refusalLine Revision = lineNumber 0
-refusalLine Device = lineNumber 0
-refusalLine Burn = lineNumber 0
-refusalLine Spot = lineNumber 0
-refusalLine Beyond = lineNumber 0
-refusalLine Same = lineNumber 0
+abbrev pub refusalTold : Refusal → Told
+refusalTold (refusal.Line n fault) = told (faultNumber fault) n (configNumber 0)
+refusalTold (refusal.Whole w) = plain (wholeNumber w)
 
 -- 0 if accepted
-abbrev pub answerNumber : FileAnswer → ℕ
-answerNumber Accepted = 0
-answerNumber (Refused r) = refusalNumber r
-
-abbrev pub answerLine : FileAnswer → LineNumber
-answerLine Accepted = lineNumber 0
-answerLine (Refused r) = refusalLine r
+abbrev pub answerTold : FileAnswer → Told
+answerTold Accepted = plain 0
+answerTold (Refused r) = refusalTold r
 
 -- a refused file says nothing
 unfoldable pub noSummary : Summary

@@ -1,19 +1,19 @@
-// What a check hands back (document 01, "Numbers for a file" and "The whole file"): a file's answer with its number and line, and
+// What a check hands back (document 01, "Numbers for a file" and "The whole file"): a file's answer, what is told of it, and
 // what an accepted file says.
 use bus::Bus;
 use counts::ConfigId;
+use counts::ConfigNumber;
 use counts::Kind;
 use counts::LineNumber;
 use line::Fault;
 use line::Line;
 ghost use mathlib.Core.Path.{_≡_};
-ghost use Rattle.summary.specs.Answers.{refusalNumber, refusalLine, answerNumber, answerLine, noSummary};
+ghost use Rattle.summary.specs.Answers.{plain, wholeNumber, refusalTold, answerTold, noSummary};
 ghost use Rattle.summary.specs.Burn.{isBurn};
 
-// Numbers 1 to 13 of document 01, "Numbers for a file": the whole file's, and a line's with its fault. Handed on whole.
-pub enum Refusal {
+// The faults of the whole file, numbers 1 and 7 to 13 of document 01, "Numbers for a file".
+pub enum Whole {
     Size,
-    Line(LineNumber, Fault),
     Count,
     Revision,
     Device,
@@ -23,9 +23,22 @@ pub enum Refusal {
     Same,
 }
 
+// The first faulty line with its fault, numbers 2 to 6, or the whole file's. Handed on whole.
+pub enum Refusal {
+    Line(LineNumber, Fault),
+    Whole(Whole),
+}
+
 pub enum FileAnswer {
     Accepted,
     Refused(Refusal),
+}
+
+// What is told of an answer: document 01's number, the line, and N.
+pub struct Told {
+    pub number: u8,
+    pub line: LineNumber,
+    pub config: ConfigNumber,
 }
 
 // What an accepted file says. `line5` is the place of line 5 in the text.
@@ -45,60 +58,61 @@ pub struct Checked {
     pub summary: Summary,
 }
 
-impl Refusal {
-    // The document's number.
-    pub fn number(self) -> u8
-        ensures { λ r. ⌜ r ≡ refusalNumber self ⌝ }
+impl Told {
+    // A number with no line and no N: both are 0.
+    pub fn plain(number: u8) -> Told
+        ensures { λ r. ⌜ r ≡ plain number ⌝ }
     {
-        match self {
-            Refusal::Size => 1,
-            Refusal::Line(_, fault) => fault.number(),
-            Refusal::Count => 7,
-            Refusal::Revision => 8,
-            Refusal::Device => 9,
-            Refusal::Burn => 10,
-            Refusal::Spot => 11,
-            Refusal::Beyond => 12,
-            Refusal::Same => 13,
+        Told {
+            number: number,
+            line: LineNumber(0),
+            config: ConfigNumber(0),
         }
     }
+}
 
-    // The line, and 0 where the whole file is refused.
-    pub fn line(self) -> LineNumber
-        ensures { λ r. ⌜ r ≡ refusalLine self ⌝ }
+impl Whole {
+    // The document's number.
+    pub fn number(self) -> u8
+        ensures { λ r. ⌜ r ≡ wholeNumber self ⌝ }
     {
         match self {
-            Refusal::Size => LineNumber(0),
-            Refusal::Line(n, _) => n,
-            Refusal::Count => LineNumber(0),
-            Refusal::Revision => LineNumber(0),
-            Refusal::Device => LineNumber(0),
-            Refusal::Burn => LineNumber(0),
-            Refusal::Spot => LineNumber(0),
-            Refusal::Beyond => LineNumber(0),
-            Refusal::Same => LineNumber(0),
+            Whole::Size => 1,
+            Whole::Count => 7,
+            Whole::Revision => 8,
+            Whole::Device => 9,
+            Whole::Burn => 10,
+            Whole::Spot => 11,
+            Whole::Beyond => 12,
+            Whole::Same => 13,
+        }
+    }
+}
+
+impl Refusal {
+    // The document's number, with the line where one is faulty.
+    pub fn told(self) -> Told
+        ensures { λ r. ⌜ r ≡ refusalTold self ⌝ }
+    {
+        match self {
+            Refusal::Line(n, fault) => {
+                let mut told = Told::plain(fault.number());
+                told.line = n;
+                told
+            }
+            Refusal::Whole(whole) => Told::plain(whole.number()),
         }
     }
 }
 
 impl FileAnswer {
-    // The document's number, and 0 for an accepted file.
-    pub fn number(self) -> u8
-        ensures { λ r. ⌜ r ≡ answerNumber self ⌝ }
+    // The refusal's, and number 0 for an accepted file.
+    pub fn told(self) -> Told
+        ensures { λ r. ⌜ r ≡ answerTold self ⌝ }
     {
         match self {
-            FileAnswer::Accepted => 0,
-            FileAnswer::Refused(refusal) => refusal.number(),
-        }
-    }
-
-    // The line, and 0 where there is none.
-    pub fn line(self) -> LineNumber
-        ensures { λ r. ⌜ r ≡ answerLine self ⌝ }
-    {
-        match self {
-            FileAnswer::Accepted => LineNumber(0),
-            FileAnswer::Refused(refusal) => refusal.line(),
+            FileAnswer::Accepted => Told::plain(0),
+            FileAnswer::Refused(refusal) => refusal.told(),
         }
     }
 }

@@ -35,7 +35,7 @@ fn judge(kind: Kind, counter: u32, flag: u32) {
         0x06000000,
     );
     match fit {
-        Fit::Fails(verdict) => say_number(verdict.number()),
+        Fit::Fails(reason) => say_number(reason.number()),
         Fit::Matched => {
             let found = guide::kind_wanted(counter, flag);
             match found {
@@ -51,7 +51,7 @@ fn judge_status(status: u32) {
     match polled {
         Polled::Busy => say(b"again\n"),
         Polled::Passed => say(b"passes\n"),
-        Polled::Failed => say_number(guide::Verdict::Program.number()),
+        Polled::Failed => say_number(guide::Reason::Program.number()),
     }
 }
 
@@ -59,7 +59,7 @@ fn judge_banks(word: u32) {
     if guide::banks_right(2, word) {
         say(b"passes\n");
     } else {
-        say_number(guide::Verdict::Banks.number());
+        say_number(guide::Reason::Banks.number());
     }
 }
 

@@ -16,10 +16,10 @@ fn say_count(words: &[u8], number: u32) {
 fn say_report(report: Report) {
     match report {
         Report::Waiting => say(b"waiting"),
-        Report::Is(number, line, config) => {
-            io::print_decimal(STDOUT_FILENO, number as u64);
-            say_count(b" config ", config.0 as u32);
-            say_count(b" line ", line.0);
+        Report::Is(told) => {
+            io::print_decimal(STDOUT_FILENO, told.number as u64);
+            say_count(b" config ", told.config.0 as u32);
+            say_count(b" line ", told.line.0);
         }
     }
 }

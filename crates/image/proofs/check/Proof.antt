@@ -4,7 +4,7 @@ use mathlib.Core.Bool.{true, false}
 use lib.ListN.{length}
 use lib.Dec.{ltb}
 use borrow.Author.Tests.{lt-ltb, le-ltb}
-use Rattle.image.specs.Private.Cascade.{onTold}
+use Rattle.image.specs.Private.Cascade.{onWalked}
 use Rattle.image.proofs.WalkIs.{walkOf, walk-is}
 use borrow.Author.Needs.{needs}
 use Rattle.image.proofs.check.Statement.{statement}
@@ -23,7 +23,7 @@ unfolding walkOf
 returns-2 c =
     let s = c .before .before .before .before .before .before .before .before .before .before .args .text .now in
     let within : ltb 65536 (length s) ≡ false = le-ltb 65536 (length s) (c .before .before .before .before .before .before .before .before .if1 .left) in
-    let walk : c .on-told .result ≡ walkOf s = rw within (c .on-told .ensures ∙ ap (onTold s) (c .before .facts-of .ensures)) in
+    let walk : c .on-walked .result ≡ walkOf s = rw within (c .on-walked .ensures ∙ ap (onWalked s) (c .before .facts-of .ensures)) in
     walk ∙ walk-is s
 
 pub check-spec : {M : Type 1} → statement M

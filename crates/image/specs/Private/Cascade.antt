@@ -11,11 +11,12 @@ use Rattle.counts.specs.declared.KindFound.the-variants.{Is, Unknown}
 use Rattle.counts.specs.Counts.{lineNumber, configNumber, kindOf, configsOf, crcLine}
 use Rattle.cuts.specs.Lines.{placeOf}
 use Rattle.image.specs.declared.Facts.{Facts}
-use Rattle.image.specs.declared.Told.{Told}
-use Rattle.image.specs.declared.Told.the-variants.{Whole, Bad}
+use Rattle.image.specs.declared.Walked.{Walked}
+use Rattle.image.specs.declared.Walked.the-variants.{Through, Bad}
 use Rattle.image.specs.declared.Spots.{Spots}
 use Rattle.summary.specs.declared.Refusal.{Refusal}
-use Rattle.summary.specs.declared.Refusal.the-variants.{Count, Revision, Device, Burn, Spot, Beyond, Same}
+use Rattle.summary.specs.declared.Refusal.the-variants.{Whole}
+use Rattle.summary.specs.declared.Whole.the-variants.{Count, Revision, Device, Burn, Spot, Beyond, Same}
 use Rattle.summary.specs.declared.FileAnswer.the-variants.{Accepted, Refused}
 use Rattle.summary.specs.declared.Checked.{Checked}
 use Rattle.image.specs.Says.{identityOf}
@@ -29,8 +30,8 @@ refusedBy r = record { answer = Refused r; summary = noSummary }
 -- 11, 13, or accepted
 unfoldable pub onSpots : List ℕ → Facts → Kind → ℕ → Spots → Checked
 onSpots s f kind k sp =
-    cond (sp .amiss) (refusedBy Spot)
-    (cond (sameIn (sp .ids) k) (refusedBy Same)
+    cond (sp .amiss) (refusedBy (Whole Spot))
+    (cond (sameIn (sp .ids) k) (refusedBy (Whole Same))
     (record {
       answer = Accepted;
       summary =
@@ -54,21 +55,21 @@ lastBeyond kind k n = ltb n (crcLine kind (configNumber (k - 1)) .0)
 -- 7 for n, 10, 12
 unfoldable pub onConfigs : List ℕ → Facts → Kind → ℕ → Checked
 onConfigs s f kind k =
-    cond (eqb k 0) (refusedBy Count)
-    (cond (burnAmissIn f) (refusedBy Burn)
-    (cond (lastBeyond kind k (f .lines)) (refusedBy Beyond) (onSpots s f kind k (spotsTo kind s k))))
+    cond (eqb k 0) (refusedBy (Whole Count))
+    (cond (burnAmissIn f) (refusedBy (Whole Burn))
+    (cond (lastBeyond kind k (f .lines)) (refusedBy (Whole Beyond)) (onSpots s f kind k (spotsTo kind s k))))
 
 -- 8, 9
 unfoldable pub onKind : List ℕ → Facts → KindFound → Checked
-onKind s f Unknown = refusedBy Revision
+onKind s f Unknown = refusedBy (Whole Revision)
 onKind s f (Is kind) =
-    cond (knownDevice (lineAt (lineNumber 1) s)) (onConfigs s f kind (configsOf kind (f .lines))) (refusedBy Device)
+    cond (knownDevice (lineAt (lineNumber 1) s)) (onConfigs s f kind (configsOf kind (f .lines))) (refusedBy (Whole Device))
 
 -- 7 for under 13 lines
 unfoldable pub onFacts : List ℕ → Facts → Checked
-onFacts s f = cond (ltb (f .lines) 13) (refusedBy Count) (onKind s f (kindOf (lineAt (lineNumber 2) s .d0)))
+onFacts s f = cond (ltb (f .lines) 13) (refusedBy (Whole Count)) (onKind s f (kindOf (lineAt (lineNumber 2) s .d0)))
 
 -- 2 to 6
-unfoldable pub onTold : List ℕ → Told → Checked
-onTold s (Whole f) = onFacts s f
-onTold s (Bad r) = refusedBy r
+unfoldable pub onWalked : List ℕ → Walked → Checked
+onWalked s (Through f) = onFacts s f
+onWalked s (Bad r) = refusedBy r

@@ -17,8 +17,8 @@ use Rattle.line.specs.declared.LineReading.the-variants as reading
 use Rattle.cuts.specs.Lines.{placeOf}
 use Rattle.line.specs.Reading.{readLine, nextLine}
 use Rattle.image.specs.declared.Facts.{Facts}
-use Rattle.image.specs.declared.Told.{Told}
-use Rattle.image.specs.declared.Told.the-variants.{Whole, Bad}
+use Rattle.image.specs.declared.Walked.{Walked}
+use Rattle.image.specs.declared.Walked.the-variants.{Through, Bad}
 use Rattle.image.specs.declared.Spots.{Spots}
 use Rattle.summary.specs.declared.Refusal.the-variants as refusal
 use Rattle.image.specs.Says.{idOf, crcOf, isC6}
@@ -35,12 +35,12 @@ unfoldable pub factsWith : Facts → Line → Facts
 factsWith f l = record { lines = f .lines + 1; early = cond (f .burnt) true (f .early); burnt = isBurn l }
 
 -- the facts of all lines, or the first faulty one's refusal
-unfoldable pub factsBy : Facts → LineReading → (Facts → Told) → Told
+unfoldable pub factsBy : Facts → LineReading → (Facts → Walked) → Walked
 factsBy f (reading.Good l) on = on (factsWith f l)
 factsBy f (reading.Refused fault) on = Bad (refusal.Line (lineNumber (f .lines + 1)) fault)
 
-unfoldable pub factsFrom : Facts → List (List ℕ) → Told
-factsFrom f [] = Whole f
+unfoldable pub factsFrom : Facts → List (List ℕ) → Walked
+factsFrom f [] = Through f
 factsFrom f (t ∷ ts) = factsBy f (readLine (lineNumber (f .lines + 1)) t) (λ g. factsFrom g ts)
 
 -- ---- lines by their places

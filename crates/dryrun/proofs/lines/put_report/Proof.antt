@@ -15,11 +15,11 @@ returns c = rw (c .before .before .before .enum-told .given .1) (c .put-bytes .e
 returns-2 : tie.Need-returns-2
 unfolding reportLine bytesOf
 returns-2 c =
-    let report = c .before .before .before .before .before .before .before .before .before .before .before .before .before .before .before .before .before .before .before .before
+    let report = c .before .before .before .before .before .before .before .before .before .before .before .before .before .before .before .before .before .before .before .before .before
     .report .given in
     rw (report .1)
     ((run-more (run-more (run-more (run-more (run-more (run-more
-    (run-one (c .before .before .before .before .before .before .before .before .before .before .before .before .before .before .before .before .put-bytes2 .ensures))
+    (run-one (c .before .before .before .before .before .before .before .before .before .before .before .before .before .before .before .before .before .put-bytes2 .ensures))
     (c .before .before .before .before .before .before .before .before .before .before .before .before .before .before .put-decimal .ensures))
     (c .before .before .before .before .before .before .before .before .before .before .before .put-bytes3 .ensures))
     (c .before .before .before .before .before .before .before .before .put-decimal2 .ensures))
@@ -29,7 +29,7 @@ returns-2 c =
     .fitting (omega (
       arith,
       rw (report .1) at (report-length
-          (c .before .before .before .before .before .before .before .before .before .before .before .before .before .before .before .before .before .before .before .before .before .before
+          (c .before .before .before .before .before .before .before .before .before .before .before .before .before .before .before .before .before .before .before .before .before .before .before
           .args .report)),
     )))
 

@@ -10,11 +10,11 @@ returns c = rw (c .enum-told .given .1)
 
 returns-2 : tie.Need-returns-2
 unfolding reportOf
-returns-2 c = rw (c .before .before .before .before .self .given .1, c .config .ensures, c .before .line .ensures, c .before .before .number .ensures)
+returns-2 c = rw (c .before .before .self .given .1, c .told .ensures)
 
 returns-3 : tie.Need-returns-3
 unfolding reportOf
-returns-3 c = rw (c .enum-told2 .given .1)
+returns-3 c = rw (c .before .enum-told2 .given .1, c .plain .ensures)
 
 pub report-spec : {M : Type 1} → statement M
 report-spec =
@@ -23,9 +23,8 @@ report-spec =
     (λ c. search needs)
     (λ c. search needs)
     (λ c κs. search needs)
-    (λ c κs. search needs)
-    (λ c κs. search needs)
     (λ c. search needs)
+    (λ c κs. search needs)
     returns
     returns-2
     returns-3)
