@@ -11,7 +11,8 @@ use Rattle.promise.proofs.Basics.{split}
 use Rattle.dryrun.specs.declared.Header.{Header}
 use Rattle.dryrun.specs.declared.Input.{Input}
 use Rattle.dryrun.specs.declared.Input.the-variants.{CutShort, TooLong, Whole}
-use Rattle.dryrun.specs.Parts.{fileLength, headerOf, wholeReplies, inputOf}
+use Rattle.tape.specs.Replies.{wholeReplies}
+use Rattle.dryrun.specs.Parts.{fileLength, headerOf, inputOf}
 
 -- a test that an input which is whole has passed
 must-not : {A : Type 0} (t : Bool) (x y : Input) (h : Header) → cond t x y ≡ Whole h → (x ≡ Whole h → A) → (t ≡ false → y ≡ Whole h → A) → A

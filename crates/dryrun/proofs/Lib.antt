@@ -1,4 +1,3 @@
 pub mod Lengths
-pub mod Whole
 pub mod Inside
 pub mod OneAnswer

@@ -7,13 +7,10 @@ use Rattle.bus.specs.declared.Request.{Request}
 use Rattle.text.proofs.OneAnswer.{OnePut, one-put}
 use mathlib.Core.Bool.{Bool}
 use Rattle.session.specs.declared.Report.{Report}
-use Rattle.dryrun.specs.Parts.{foundAt, inputOf}
+use Rattle.dryrun.specs.Parts.{inputOf}
 use Rattle.dryrun.specs.Lines.{countLine, reportLine, requestLine}
 use Rattle.promise.specs.One.{One}
 use Rattle.promise.proofs.Equal.{one-answer}
-
-pub one-reply-at : (input : List ℕ) (at : ℕ) → One (λ r. r ≡ foundAt input at)
-one-reply-at input at = one-answer _
 
 pub one-parse : (input : List ℕ) → One (λ r. r ≡ inputOf input)
 one-parse input = one-answer _

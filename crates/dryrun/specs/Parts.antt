@@ -1,19 +1,15 @@
 -- The input of a dry run: a byte whether step 1 is wanted, two bytes poll limit, a byte RESTORE_CFG code, four bytes file length, the
--- file, then replies, each a kind byte, a length byte and the bytes; numbers lowest byte first. Assumes nothing.
-use Prim.Native.Nat.{ℕ, zero, suc, _+_, _*_, _-_}
-use mathlib.Core.Bool.{Bool, true, false, cond}
+-- file, then replies as in tape; numbers lowest byte first. Assumes nothing.
+use Prim.Native.Nat.{ℕ, _+_, _*_, _-_}
+use mathlib.Core.Bool.{cond}
 use mathlib.Core.List.{List}
-use lib.Dec.{ltb, leb}
-use lib.ListN.{length, getD}
+use lib.Dec.{ltb}
+use lib.ListN.{length}
 use Rattle.session.specs.declared.Settings.{Settings}
+use Rattle.tape.specs.Replies.{byte, wholeReplies}
 use Rattle.dryrun.specs.declared.Header.{Header}
 use Rattle.dryrun.specs.declared.Input.{Input}
 use Rattle.dryrun.specs.declared.Input.the-variants.{CutShort, TooLong, Whole}
-use Rattle.dryrun.specs.declared.Found.{Found}
-use Rattle.dryrun.specs.declared.Found.the-variants.{End, Reply, Part}
-
-abbrev pub byte : List ℕ → ℕ → ℕ
-byte s i = getD s i 0
 
 -- two bytes, lowest first
 unfoldable pub pair : ℕ → ℕ → ℕ
@@ -28,24 +24,6 @@ settingsOf s = record { wanted = ltb 0 (byte s 0); limit = pair (byte s 1) (byte
 
 unfoldable pub headerOf : List ℕ → ℕ → Header
 headerOf s file = record { settings = settingsOf s; behind = 8 + file }
-
--- ---- the replies
-
-unfoldable pub foundAt : List ℕ → ℕ → Found
-foundAt s at =
-    cond (leb (length s) at) End
-    (cond (ltb (length s - at) 2) Part
-    (cond (ltb (length s - at - 2) (byte s (at + 1))) Part (Reply (byte s at) (at + 2) (at + 2 + byte s (at + 1)))))
-
--- the replies from a place on are whole, so many of them at most: none is cut at the end of the input
-unfoldable pub wholeBy : Found → (ℕ → Bool) → Bool
-wholeBy End from = true
-wholeBy (Reply kind start end) from = from end
-wholeBy Part from = false
-
-unfoldable pub wholeReplies : ℕ → List ℕ → ℕ → Bool
-wholeReplies zero s at = true
-wholeReplies (suc most) s at = wholeBy (foundAt s at) (wholeReplies most s)
 
 -- room for a file of 65,600 bytes and 200,000 bytes of replies; what is missing at the end is cut short
 unfoldable pub inputOf : List ℕ → Input

@@ -6,7 +6,6 @@ pub use lines::put_count;
 pub use lines::put_report;
 pub use lines::put_request;
 pub use parts::parse;
-pub use parts::reply_at;
 use session::Settings;
 
 // What stands at the front of an input that is whole: the settings, and the place behind the file, which starts at 8.
@@ -19,11 +18,4 @@ pub enum Input {
     CutShort,
     TooLong,
     Whole(Header),
-}
-
-// What stands at a place behind the file: nothing more, a reply of this kind with the bytes from one place to another, or a part of one.
-pub enum Found {
-    End,
-    Reply(u8, usize, usize),
-    Part,
 }

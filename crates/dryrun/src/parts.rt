@@ -1,50 +1,13 @@
 // The input: a byte whether step 1 is wanted, two bytes poll limit, a byte RESTORE_CFG code, four bytes file length, the file, then
-// replies, each a kind byte, a length byte and the bytes. Numbers are lowest byte first.
-use crate::Found;
+// replies as `tape` reads them. Numbers are lowest byte first.
 use crate::Header;
 use crate::Input;
 use session::Settings;
+use tape::replies_whole;
 ghost use mathlib.Core.Path.{_≡_};
 ghost use Prim.Native.Nat.{_≤_};
 ghost use lib.ListN.{length};
-ghost use Rattle.dryrun.specs.Parts.{pair, fileLength, headerOf, foundAt, wholeReplies, inputOf};
-
-// What stands at a place of the input.
-pub fn reply_at(input: &[u8], at: usize) -> Found
-    ensures { λ r. ⌜ r ≡ foundAt (now (input .entry)) at ⌝ }
-{
-    let n = input.len();
-    if n <= at {
-        return Found::End;
-    }
-    if n - at < 2 {
-        return Found::Part;
-    }
-    let count = input[at + 1] as usize;
-    if n - at - 2 < count {
-        Found::Part
-    } else {
-        Found::Reply(input[at], at + 2, at + 2 + count)
-    }
-}
-
-// Whether the replies from a place on are whole. No input has more replies than bytes.
-fn replies_whole(input: &[u8], from: usize) -> bool
-    ensures { λ r. ⌜ r ≡ wholeReplies (length (now (input .entry))) (now (input .entry)) from ⌝ }
-{
-    let mut at = from;
-    let mut left = input.len();
-    while 0 < left {
-        left -= 1;
-        let found = reply_at(input, at);
-        match found {
-            Found::End => return true,
-            Found::Reply(_, _, end) => at = end,
-            Found::Part => return false,
-        }
-    }
-    true
-}
+ghost use Rattle.dryrun.specs.Parts.{pair, fileLength, headerOf, inputOf};
 
 // Two bytes, lowest first.
 fn two(a: u8, b: u8) -> u16

@@ -4,7 +4,7 @@ use mathlib.Core.List.{List}
 use Prim.Native.Nat.{ℕ, zero, suc, _-_, _<_}
 use native.Mathlib.Omega.{arith}
 use Rattle.session.specs.declared.Session.{Session}
-use Rattle.dryrun.specs.Parts.{foundAt}
+use Rattle.tape.specs.Replies.{foundAt}
 use Rattle.measured.specs.Replies.{fedBy, fedOf}
 
 pub after-step : (input file : List ℕ) (left at : ℕ) (s : Session) → 0 < left

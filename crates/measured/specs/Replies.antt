@@ -7,9 +7,10 @@ use Rattle.session.specs.Begin.{beginOf}
 use Rattle.session.specs.Reply.{replyOf}
 use Rattle.dryrun.specs.declared.Input.{Input}
 use Rattle.dryrun.specs.declared.Input.the-variants.{CutShort, TooLong, Whole}
-use Rattle.dryrun.specs.declared.Found.{Found}
-use Rattle.dryrun.specs.declared.Found.the-variants.{End, Reply, Part}
-use Rattle.dryrun.specs.Parts.{foundAt, inputOf}
+use Rattle.dryrun.specs.Parts.{inputOf}
+use Rattle.tape.specs.declared.Found.{Found}
+use Rattle.tape.specs.declared.Found.the-variants.{End, Reply, Part}
+use Rattle.tape.specs.Replies.{foundAt}
 
 -- the bytes from one place to another
 abbrev pub part : List ℕ → ℕ → ℕ → List ℕ

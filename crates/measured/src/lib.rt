@@ -1,7 +1,7 @@
 // Entries for bench/ alone: functions of the delivery that C or Rust could not call by themselves. Nothing delivered uses them.
-use dryrun::Found;
 use dryrun::Input;
 use session::Session;
+use tape::Found;
 ghost use mathlib.Core.Path.{_≡_};
 ghost use Rattle.pec.specs.Lent.{runWith};
 ghost use Rattle.measured.specs.Replies.{fedOf, sentAfter};
@@ -23,7 +23,7 @@ fn fed(begun: Session, input: &[u8], file: &[u8], from: usize, replies: u32) -> 
     let mut left = replies;
     while 0 < left {
         left -= 1;
-        let found = dryrun::reply_at(input, at);
+        let found = tape::reply_at(input, at);
         match found {
             Found::End => return s,
             Found::Reply(kind, start, end) => {

@@ -1,12 +1,12 @@
 // A dry run: what a station would send for the settings, the file and the replies on standard input, and how the session stands.
 // Each line that it writes is made by `dryrun`, and each request and verdict by `session`.
 use bus::Request;
-use dryrun::Found;
 use dryrun::Input;
 use libc::STDIN_FILENO;
 use libc::STDOUT_FILENO;
 use session::Session;
 use session::Settings;
+use tape::Found;
 
 // A request of zeros is none.
 fn say_request(q: Request) {
@@ -33,7 +33,7 @@ fn run(settings: Settings, input: &[u8], file: &[u8], behind: usize) {
     let mut left = input.len();
     while 0 < left {
         left -= 1;
-        let found = dryrun::reply_at(input, at);
+        let found = tape::reply_at(input, at);
         match found {
             Found::End => left = 0,
             Found::Part => left = 0,

@@ -2,7 +2,7 @@
 use mathlib.Core.Path.{_≡_, refl, sym, _∙_}
 use Prim.Native.Nat.{_<_}
 use native.Mathlib.Omega.{arith}
-use Rattle.dryrun.proofs.Whole.{found-within}
+use Rattle.tape.proofs.Whole.{found-within}
 use Rattle.measured.specs.Replies.{fedBy, fedOf}
 use Rattle.measured.proofs.Turns.{after-step}
 use borrow.Author.Needs.{needs}

@@ -1,7 +1,7 @@
 -- A reply that was found lies within the input. Each turn uses up one of as many as there are bytes. Assumes nothing.
 use mathlib.Core.Path.{_≡_, sym, _∙_}
 use native.Mathlib.Omega.{arith}
-use Rattle.dryrun.proofs.Whole.{found-within}
+use Rattle.tape.proofs.Whole.{found-within}
 use borrow.Author.Needs.{needs}
 use Rattle.replay.proofs.run.Statement.{statement}
 use Rattle.replay.proofs.run.Tie as tie

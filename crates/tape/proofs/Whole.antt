@@ -7,8 +7,8 @@ use lib.Dec.{ltb, leb}
 use lib.ListN.{length}
 use borrow.Author.Tests.{ltb-false, leb-false}
 use Rattle.promise.proofs.Basics.{split}
-use Rattle.dryrun.specs.declared.Found.the-variants.{End, Reply, Part}
-use Rattle.dryrun.specs.Parts.{foundAt, wholeBy, wholeReplies, byte}
+use Rattle.tape.specs.declared.Found.the-variants.{End, Reply, Part}
+use Rattle.tape.specs.Replies.{foundAt, wholeBy, wholeReplies, byte}
 
 pub whole-step : (left : ℕ) (s : List ℕ) (at : ℕ) → 0 < left → wholeReplies left s at ≡ wholeBy (foundAt s at) (wholeReplies (left - 1) s)
 unfolding wholeReplies

@@ -2,11 +2,11 @@
 use mathlib.Core.Path.{_≡_, refl, sym, _∙_}
 use Prim.Native.Nat.{_<_}
 use lib.ListN.{length}
-use Rattle.dryrun.specs.Parts.{wholeBy, wholeReplies}
-use Rattle.dryrun.proofs.Whole.{whole-step}
+use Rattle.tape.specs.Replies.{wholeBy, wholeReplies}
+use Rattle.tape.proofs.Whole.{whole-step}
 use borrow.Author.Needs.{needs}
-use Rattle.dryrun.proofs.parts.replies_whole.Statement.{statement}
-use Rattle.dryrun.proofs.parts.replies_whole.Tie as tie
+use Rattle.tape.proofs.replies_whole.Statement.{statement}
+use Rattle.tape.proofs.replies_whole.Tie as tie
 
 abbrev Inv-loop : tie.InvT-loop
 Inv-loop input from at₀ left₀ at left = wholeReplies (length input) input from ≡ wholeReplies left input at
