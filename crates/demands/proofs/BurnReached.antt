@@ -16,12 +16,11 @@ use Rattle.bus.specs.declared.Request.{Request}
 use Rattle.bus.specs.declared.ReplyForm.{ReplyForm}
 use Rattle.bus.specs.declared.ReplyForm.the-variants.{Unanswered, Misshapen, Miscoded, Good}
 use Rattle.bus.specs.ReplyForm.{formOf}
-use Rattle.guide.specs.Plan.{Reply, fileLine, Asked, Plan, requests}
+use Rattle.guide.specs.Plan.{Reply, fileLine, Asked, Plan, requests, bare}
 use Rattle.guide.specs.Guide.{hear, lineRequest, lines, linesAs}
 use Rattle.guide.specs.Statements.{isBurnMark, burnsIn, beforeBurn, AllInForm}
 use Rattle.guide.specs.Statements as said
 use Rattle.guide.proofs.Through.{asked}
-use Rattle.demands.specs.Runs.{bare}
 use Rattle.demands.specs.Headline.{asItStands, allAsTheyStand}
 use Rattle.demands.proofs.LinesAsTheyStand.{line-stands}
 

@@ -6,19 +6,19 @@ use mathlib.Core.Bool.{Bool, true, false, cond}
 use mathlib.Core.List.{List, [], _∷_, _++_, List·Memᴰ, List·Memᴰ·head, List·Memᴰ·tail, List·Memᴰ·cases-cons, List·Memᴰ·not-nil}
 use Prim.Native.Nat.{ℕ, suc, _+_, _≤_}
 use native.Mathlib.Omega.{arith}
-use Rattle.image.specs.Says.{summaryOf}
 use Rattle.bus.specs.declared.Request.{Request}
 use Rattle.bus.specs.declared.ReplyForm.the-variants.{Good}
 use Rattle.bus.specs.Bus.{eight, writeOf}
 use Rattle.bus.specs.InForm.{Made, write, register, block, Says, Means}
 use Rattle.bus.proofs.FormMeans.{form-means}
-use Rattle.guide.specs.Plan.{Reply, Asked, requests}
+use Rattle.guide.specs.Plan.{Reply, Asked, requests, bare}
 use Rattle.guide.specs.Guide.{lineRequest, writeLinesOf, guideFor}
 use Rattle.guide.specs.Statements.{sameBytes, burnBytes, spellings, AllInForm}
 use Rattle.guide.specs.Statements as said
 use Rattle.guide.proofs.Every.{every-request, Other, point, word, identity, revision, set, command, load, guide-every}
-use Rattle.demands.specs.Runs.{bare}
 use Rattle.demands.specs.Headline.{burn, Answered, none, more}
+use Rattle.guide.specs.Terms.{Terms}
+use Rattle.summary.specs.declared.Summary.{Summary}
 
 -- ---- the burn's bytes
 
@@ -58,8 +58,8 @@ said-in-form _ _ made (said.more q qs r rs w e f) =
     (said-in-form qs rs (λ p m. made p (List·Memᴰ·tail m)) f)
 
 -- every request of the guide is a write or a read
-module _ (text : List ℕ) (wanted : Bool) (limit restore : ℕ) (rs : List Reply) where
-  other-made : (q : Request) → Other (summaryOf text) restore q → Made q
+module _ (T : Terms) (file : Summary) (text : List ℕ) (rs : List Reply) where
+  other-made : (q : Request) → Other T file q → Made q
   unfolding writeOf
   other-made _ (point low high) = write _ _
   other-made _ word = register
@@ -69,8 +69,9 @@ module _ (text : List ℕ) (wanted : Bool) (limit restore : ℕ) (rs : List Repl
   other-made _ command = write _ _
   other-made _ (load N) = write _ _
 
-  pub guide-made : (q : Asked) → List·Memᴰ q (requests (guideFor text wanted limit restore) rs) → Made (q .request)
+  abbrev Known : Asked → Type 0
+  Known q = Made (q .request)
+
+  pub guide-made : (q : Asked) → List·Memᴰ q (requests (guideFor T file text) rs) → Made (q .request)
   unfolding guideFor writeLinesOf lineRequest
-  guide-made q m =
-      let every = guide-every {P = λ q. Made (q .request)} (summaryOf text) restore other-made _ wanted limit (λ j h. write _ _) in
-      every-request {P = λ q. Made (q .request)} every rs q m
+  guide-made q m = every-request {P = Known} (guide-every {P = Known} T file other-made _ (λ j h. write _ _)) rs q m

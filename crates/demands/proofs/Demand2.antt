@@ -2,31 +2,49 @@
 use mathlib.Core.Path.{_≡_}
 use mathlib.Core.List.{List}
 use Prim.Native.Nat.{ℕ}
-use Rattle.image.specs.Says.{summaryOf}
-use Rattle.image.specs.Check.{checkOf}
 use Rattle.guide.specs.Plan.{Reply}
 use Rattle.guide.specs.Guide.{writeLinesOf, guideFor}
 use Rattle.session.specs.declared.Settings.{Settings}
-use Rattle.session.specs.Begin.{startOf, answeredOf, checkedOf, beginOf}
-use Rattle.demands.specs.Runs.{guideOf}
+use Rattle.session.specs.Begin.{startOf, answeredOf, checkedOf, beginOf, newPosition, freshOf}
+use Rattle.demands.specs.Runs.{sent, after}
 use Rattle.demands.specs.Demands.{Premises, Demand2}
-use Rattle.demands.proofs.PremisesGive.{taken, told, kept}
-use Rattle.demands.proofs.SessionIsGuide.{Along, before, start-along}
+use Rattle.demands.proofs.PremisesGive.{taken, kept, says, facts}
+use Rattle.demands.proofs.SessionIsGuide.{Along, before, start-along, Room}
+use native.Mathlib.Omega.{arith}
+use Rattle.session.specs.Terms.{termsOf}
+use Rattle.guide.specs.Statements.{Bounded}
+use Rattle.guide.proofs.Bounded.{bounded}
+use Rattle.summary.specs.declared.Summary.{Summary}
+use Rattle.session.specs.declared.Session.{Session}
+use Rattle.session.specs.declared.Handed.{Handed}
+use Rattle.session.specs.Sound.{mostSent}
+use Rattle.demands.proofs.SettingsSay.{is-allowed}
 
-module _ (S : Settings) (text : List ℕ) (P : Premises S text) where
+module _ {S : Settings} {text : List ℕ} {file : Summary} (P : Premises S text file) where
   -- `begin` starts where the text's own summary does
-  pub begin-is : beginOf S text ≡ startOf S (checkOf text .summary)
+  pub begin-is : beginOf S text ≡ startOf S file
   unfolding beginOf checkedOf answeredOf
-  begin-is = rw (P .allowed, taken S text P)
+  begin-is = rw (is-allowed S (P .allowed), taken P, P .summary)
 
-  pub run : (rs : List Reply)
-      → Along text (writeLinesOf text) (before text (writeLinesOf text) S (summaryOf text) (kept S text P))
-      (startOf S (checkOf text .summary)) (guideOf S text) rs
+  -- before the first request
+  abbrev pub first : Session
+  first = before text (writeLinesOf text) S file (kept P)
+
+  -- the bound is the guide's own
+  room : Room text (writeLinesOf text) first (guideFor (termsOf S) file text)
+  unfolding freshOf newPosition mostSent Bounded
+  room rs = omega (arith, bounded (termsOf S) file text (facts P) rs)
+
+  pub run : (rs : List Reply) → Along text (writeLinesOf text) first (startOf S file) (guideFor (termsOf S) file text) rs
   unfolding guideFor
-  run rs = rw (told S text P) (start-along text (writeLinesOf text) S (summaryOf text) (kept S text P) rs)
+  run rs = start-along text (writeLinesOf text) S file (kept P) room rs
 
-  pub demand2-start : (rs : List Reply) → Demand2 S text rs (startOf S (checkOf text .summary))
-  demand2-start rs = let a = run rs in record { sameRequests = a .sends; sameAnswer = a .says }
+  module _ (rs : List Reply) where
+    abbrev Holds : Handed → Type 0
+    Holds start = Demand2 (termsOf S) file text rs (sent text start rs) (after text start rs)
 
-  pub demand2 : (rs : List Reply) → Demand2 S text rs (beginOf S text)
-  demand2 rs = rw begin-is (demand2-start rs)
+    pub demand2-start : Holds (startOf S file)
+    demand2-start = let a = run rs in record { sameRequests = a .sends; sameAnswer = a .says }
+
+    pub demand2 : Holds (beginOf S text)
+    demand2 = rw begin-is demand2-start

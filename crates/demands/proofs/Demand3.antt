@@ -4,20 +4,26 @@ use mathlib.Core.List.{List, [], _∷_, _++_}
 use Prim.Native.Nat.{ℕ, suc}
 use native.Mathlib.Omega.{arith}
 use lib.ListN.{length}
-use Rattle.image.specs.Check.{checkOf}
 use Rattle.bus.specs.declared.Request.{Request}
-use Rattle.guide.specs.Plan.{Reply, Asked, Outcome, waiting, ended, requests}
-use Rattle.guide.specs.Statements.{Bounded, Begins}
+use Rattle.guide.specs.Plan.{Reply, Asked, Outcome, waiting, ended, requests, bare}
+use Rattle.guide.specs.Statements.{Bounded, Begins, burnsIn}
 use Rattle.guide.proofs.BeginsAndSettles.{begins}
 use Rattle.guide.proofs.FileFacts.{lines-are}
-use Rattle.guide.proofs.OfText.{accepted-facts, accepted-gate, accepted-burns, accepted-bounded}
 use Rattle.session.specs.declared.Settings.{Settings}
 use Rattle.session.specs.declared.Answer.the-variants.{BadState}
 use Rattle.session.specs.Begin.{newPosition, freshOf, startOf, beginOf}
-use Rattle.demands.specs.Runs.{guideOf, bare, answerFor}
-use Rattle.demands.specs.Demands.{Premises, Demand3}
-use Rattle.demands.proofs.PremisesGive.{taken}
+use Rattle.demands.specs.Runs.{sent, after}
+use Rattle.demands.specs.Demands.{Premises, Demand3, answerFor}
+use Rattle.demands.proofs.PremisesGive.{says, facts}
 use Rattle.demands.proofs.Demand2.{begin-is, run}
+use Rattle.session.specs.Terms.{termsOf}
+use Rattle.guide.specs.Guide.{guideFor}
+use Rattle.guide.proofs.Bounded.{bounded}
+use Rattle.guide.proofs.GateHolds.{gate-holds}
+use Rattle.guide.proofs.BurnsHold.{burns-hold}
+use Rattle.summary.specs.declared.Summary.{Summary}
+use Rattle.session.specs.declared.Handed.{Handed}
+use lib.Dec.{leb}
 
 -- the guide never says 15
 never-bad : (o : Outcome) → answerFor o ≡ BadState → ⊥
@@ -35,24 +41,27 @@ unfolding bare
 bare-length [] = refl
 bare-length (q ∷ a) = ap suc (bare-length a)
 
-module _ (S : Settings) (text : List ℕ) (P : Premises S text) where
-  pub demand3-start : (rs : List Reply) → Demand3 S text rs (startOf S (checkOf text .summary))
+module _ {S : Settings} {text : List ℕ} {file : Summary} (P : Premises S text file) (rs : List Reply) where
+  abbrev Holds : Handed → Type 0
+  Holds start = Demand3 (termsOf S) file text rs (sent text start rs) (after text start rs)
+
+  pub demand3-start : Holds (startOf S file)
   unfolding freshOf newPosition Begins Bounded
-  demand3-start rs =
-      let a = run S text P rs in
-      let e = taken S text P in
-      let list = requests (guideOf S text) rs in
+  demand3-start =
+      let T = termsOf S in
+      let a = run P rs in
+      let list = requests (guideFor T file text) rs in
       record {
         never15 = λ h. never-bad _ (sym (a .says) ∙ h);
         beginning = λ later.
-            let b = begins (guideOf S text) rs later in
+            let b = begins (guideFor T file text) rs later in
             (bare (b .0), ap bare (b .1) ∙ (bare-append list (b .0) ∙ ap (λ (l : List Request). l ++ bare (b .0)) (sym (a .sends))));
-        gate = accepted-gate text e (S .wanted) (S .limit) (S .restore) rs;
-        burns = accepted-burns text e (S .wanted) (S .limit) (S .restore) rs;
+        gate = gate-holds T file text (facts P) rs;
+        burns = burns-hold T file text (facts P) rs;
         counts = rw (a .sends, bare-length list) (omega (arith, a .counting));
-        reports = rw (lines-are text (accepted-facts text e)) (a .burning);
-        bound = rw (a .sends, bare-length list) (accepted-bounded text e (S .wanted) (S .limit) (S .restore) rs);
+        reports = a .burning ∙ ap (λ k. leb 1 (burnsIn k list)) (sym (lines-are text (facts P)));
+        bound = rw (a .sends, bare-length list) (bounded T file text (facts P) rs);
       }
 
-  pub demand3 : (rs : List Reply) → Demand3 S text rs (beginOf S text)
-  demand3 rs = rw (begin-is S text P) (demand3-start rs)
+  pub demand3 : Holds (beginOf S text)
+  demand3 = rw (begin-is P) demand3-start

@@ -1,6 +1,6 @@
 -- What a call hands back fits the plan that the guide goes on with: a request that is put out, an end, and a reply that is heard.
 -- Assumes nothing.
-use mathlib.Core.Path.{_≡_, refl, sym, _∙_}
+use mathlib.Core.Path.{_≡_, refl, sym}
 use mathlib.Core.List.{List, [], _∷_}
 use mathlib.Core.Bool.{Bool, true, false, cond, _||_, or-false}
 use Prim.Native.Nat.{ℕ, _+_, _≤_}
@@ -19,14 +19,16 @@ use Rattle.guide.specs.Plan.{Reply, Mark, other, Plan, ask, done, verdict}
 use Rattle.guide.specs.Guide.{hear}
 use Rattle.guide.specs.Statements.{isBurnMark}
 use Rattle.guide.proofs.Through.{asked}
+use Rattle.session.specs.declared.Position.{Position}
 use Rattle.session.specs.declared.Session.{Session}
 use Rattle.session.specs.declared.Handed.{Handed}
 use Rattle.session.specs.declared.Stage.the-variants.{Open}
 use Rattle.session.specs.declared.Awaited.{Awaited}
-use Rattle.session.specs.Moves.{withStage, withSent, putOf, endOf}
+use Rattle.session.specs.Moves.{withStage, withPosition, withSent, putOf, endOf}
 use Rattle.session.specs.Reply.{followOf, repliedOf}
-use Rattle.demands.specs.Runs.{putOut, answerFor}
+use Rattle.demands.specs.Runs.{putOut, sent}
 use Rattle.demands.proofs.WhereItStands.{handOf, Kept, Bounds, At, Sim, running, finished}
+use Rattle.demands.specs.Demands.{answerFor}
 
 -- the request that a plan puts out, none where it is done
 unfoldable pub rootOf : Plan → List Request
@@ -54,13 +56,15 @@ module _ (text : List ℕ) (ls : List Line) where
   pub record Fits (s : Session) (p : Plan) (t : Handed) : Type 0 where
     pub sim : Sim text ls (t .session) (t .session .stage) p
     pub out : putOut (t .request) ≡ rootOf p
+    pub settings : t .session .settings ≡ s .settings
+    pub file : t .session .file ≡ s .file
     pub counting : t .session .sent ≡ s .sent + sizeOf p
     pub burning : t .session .burned ≡ (s .burned || burnOf (4 + length ls) p)
     pub says : t .answer ≡ answerFor (verdict p [])
 
   pub end-fits : (s : Session) (v : Verdict) → Fits s (done v) (endOf s v)
   unfolding endOf withStage noRequest putOut rootOf sizeOf burnOf answerFor verdict
-  end-fits s v = record { sim = finished; out = refl; counting = omega arith; burning = sym (or-false (s .burned)); says = refl }
+  end-fits s v = record { sim = finished; out = refl; settings = refl; file = refl; counting = omega arith; burning = sym (or-false (s .burned)); says = refl }
 
   pub hear-fits : (s : Session) (g : Awaited) (next : ℕ → Plan) (h : ReplyForm) → ((w : ℕ) → Fits s (next w) (followOf text s g w))
       → Fits s (hear h next) (repliedOf text s g h)
@@ -70,21 +74,35 @@ module _ (text : List ℕ) (ls : List Line) where
   hear-fits s g next Miscoded f = end-fits s (Halted Pec)
   hear-fits s g next (Good w) f = f w
 
-  pub put-fits : (s t : Session) (g : Awaited) (m : Mark) (q : Request) (next : Reply → Plan) (most : ℕ)
-      → t .sent ≡ s .sent → t .burned ≡ (s .burned || isBurnMark (4 + length ls) m) → 1 ≤ q .used
-      → At text ls (holding t g q) g most (ask (asked m q) next) → Bounds text ls (holding t g q) most → Kept text ls (t .settings) (t .file)
+  pub put-fits : (s t : Session) (g : Awaited) (m : Mark) (q : Request) (next : Reply → Plan)
+      → t .settings ≡ s .settings → t .file ≡ s .file → t .sent ≡ s .sent → t .burned ≡ (s .burned || isBurnMark (4 + length ls) m) → 1 ≤ q .used
+      → At text ls (holding t g q) g (ask (asked m q) next) → Bounds text ls (holding t g q) → Kept text ls (t .settings) (t .file)
       → Fits s (ask (asked m q) next) (putOf t g q)
   unfolding putOf withSent withStage rootOf handOf sizeOf burnOf verdict answerFor
-  put-fits s t g m q next most c b u a l K =
-      record { sim = running refl refl a l K; out = putOut-some q u; counting = omega arith; burning = b; says = refl }
+  put-fits s t g m q next S f c b u a l K =
+      record {
+        sim = running refl refl a l K;
+        out = putOut-some q u;
+        settings = S;
+        file = f;
+        counting = omega arith;
+        burning = b;
+        says = refl;
+      }
 
-  -- a request that is no write line of the file
-  pub other-fits : (s t : Session) (g : Awaited) (q : Request) (next : Reply → Plan) (most : ℕ)
-      → t .sent ≡ s .sent → t .burned ≡ s .burned → 1 ≤ q .used
-      → At text ls (holding t g q) g most (ask (asked other q) next) → Bounds text ls (holding t g q) most → Kept text ls (t .settings) (t .file)
-      → Fits s (ask (asked other q) next) (putOf t g q)
+  -- a request that is no write line of the file, from a state that has moved so far
+  pub moved-fits : (s : Session) (x : Position) (g : Awaited) (q : Request) (next : Reply → Plan) → 1 ≤ q .used
+      → At text ls (holding (withPosition s x) g q) g (ask (asked other q) next) → Bounds text ls (holding (withPosition s x) g q)
+      → Kept text ls (s .settings) (s .file)
+      → Fits s (ask (asked other q) next) (putOf (withPosition s x) g q)
+  unfolding withPosition isBurnMark
+  moved-fits s x g q next u a l K = put-fits s (withPosition s x) g other q next refl refl refl (sym (or-false (s .burned))) u a l K
+
+  pub other-fits : (s : Session) (g : Awaited) (q : Request) (next : Reply → Plan) → 1 ≤ q .used
+      → At text ls (holding s g q) g (ask (asked other q) next) → Bounds text ls (holding s g q) → Kept text ls (s .settings) (s .file)
+      → Fits s (ask (asked other q) next) (putOf s g q)
   unfolding isBurnMark
-  other-fits s t g q next most c b u a l K = put-fits s t g other q next most c (b ∙ sym (or-false (s .burned))) u a l K
+  other-fits s g q next u a l K = put-fits s s g other q next refl refl refl (sym (or-false (s .burned))) u a l K
 
   pub cond-fits : (s : Session) {p p′ : Plan} {t t′ : Handed} (b : Bool) → Fits s p t → Fits s p′ t′ → Fits s (cond b p p′) (cond b t t′)
   cond-fits s true f g = f

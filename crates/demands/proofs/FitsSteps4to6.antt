@@ -1,8 +1,8 @@
 -- Steps 4 to 6: the polls that are left, and the configurations that are left. Assumes nothing.
-use mathlib.Core.Path.{_≡_, refl}
+use mathlib.Core.Path.{_≡_}
 use mathlib.Core.List.{List}
 use mathlib.Core.Bool.{cond}
-use Prim.Native.Nat.{ℕ, zero, suc, _+_, _*_, _≤_, _<_}
+use Prim.Native.Nat.{ℕ, zero, suc, _+_}
 use native.Mathlib.Omega.{arith}
 use lib.Dec.{eqb}
 use borrow.Author.Tests.{lt-ltb, le-ltb}
@@ -20,59 +20,56 @@ use Rattle.session.specs.declared.Awaited.the-variants.{StatusRead, BanksAt, Re
 use Rattle.session.specs.Moves.{withStage, withPosition, withSent}
 use Rattle.session.specs.Stages.{atPolls, atConfig, pollAgainOf, polledDoneOf, restoreOf, restoreNextOf, crcDoneOf}
 use Rattle.demands.proofs.RestOfGuide
-use Rattle.demands.proofs.WhereItStands.{Kept, Bounds, line, config, status-read, banks-at, restore}
-use Rattle.demands.proofs.FitsCall.{Fits, end-fits, other-fits, cond-fits}
+use Rattle.demands.proofs.WhereItStands.{Kept, Bounds, config, status-read, banks-at, restore}
+use Rattle.demands.proofs.FitsCall.{Fits, end-fits, moved-fits, other-fits, cond-fits}
+use Rattle.session.specs.Terms.{termsOf}
 
 module _ (text : List ℕ) (ls : List Line) (s : Session) (K : Kept text ls (s .settings) (s .file)) where
   -- ---- step 4
 
-  module _ (c : config text ls s ≡ 0) (b : Bounds text ls s (s .file .lines + 8 + s .position .polls)) where
+  module _ (c : config text ls s ≡ 0) (b : Bounds text ls s) where
     poll-again-fits : (left : ℕ) → s .position .polls + suc left ≡ s .settings .limit
-        → Fits text ls s (RestOfGuide.statusRead (s .file) ls (s .settings) left) (pollAgainOf s)
+        → Fits text ls s (RestOfGuide.statusRead (termsOf (s .settings)) (s .file) ls left) (pollAgainOf s)
     unfolding RestOfGuide.statusRead polls readOf pollAgainOf atPolls withPosition withStage withSent
     poll-again-fits zero e = rw (le-ltb (s .position .polls + 1) (s .settings .limit) (omega arith)) (end-fits text ls s (Halted Program))
     poll-again-fits (suc left) e =
         rw (lt-ltb (s .position .polls + 1) (s .settings .limit) (omega arith))
-        (other-fits text ls s (withPosition s (atPolls (s .position) (s .position .polls + 1))) StatusRead _ _
-        (s .file .lines + 8 + (s .position .polls + 1)) refl refl (omega arith)
+        (moved-fits text ls s (atPolls (s .position) (s .position .polls + 1)) StatusRead _ _ (omega arith)
         (status-read left c (omega arith)) (omega arith) K)
 
     pub polled-fits : (left : ℕ) (x : Polled) → s .position .polls + suc left ≡ s .settings .limit
-        → Fits text ls s (polled x (RestOfGuide.statusRead (s .file) ls (s .settings) left) (RestOfGuide.banksAt (s .file) ls (s .settings))) (polledDoneOf s x)
+        → Fits text ls s (polled x (RestOfGuide.statusRead (termsOf (s .settings)) (s .file) ls left) (RestOfGuide.banksAt (termsOf (s .settings)) (s .file) ls)) (polledDoneOf s x)
     unfolding polled polledDoneOf RestOfGuide.banksAt writeOf framed withStage withSent
     polled-fits left Busy e = poll-again-fits left e
     polled-fits left Passed e =
-        other-fits text ls s s BanksAt _ _ (s .file .lines + 8 + s .settings .limit) refl refl (omega arith) (banks-at c) (omega arith) K
+        other-fits text ls s BanksAt _ _ (omega arith) (banks-at c) (omega arith) K
     polled-fits left Failed e = end-fits text ls s (Halted Program)
 
   -- ---- step 6
 
-  restore-fits : (left N : ℕ) → N + suc left ≡ s .file .configs → s .sent ≤ s .file .lines + 9 + s .settings .limit + 3 * N → 5 ≤ line text ls s
-      → line text ls s ≤ s .file .lines → s .position .polls < s .settings .limit
-      → Fits text ls s (verify (s .file) (s .settings .restore) (suc left) N) (restoreOf s (configNumber N))
-  unfolding verify RestOfGuide.restore RestOfGuide.crcAt RestOfGuide.crcRead writeOf framed restoreOf atConfig withPosition withStage withSent
-  restore-fits left N e n l h p =
-      other-fits text ls s (withPosition s (atConfig (s .position) (configNumber N))) Restore _ _
-      (s .file .lines + 10 + s .settings .limit + 3 * N) refl refl (omega arith)
-      (restore left e) (omega arith) K
+  module _ (b : Bounds text ls s) where
+    restore-fits : (left N : ℕ) → N + suc left ≡ s .file .configs
+        → Fits text ls s (verify (termsOf (s .settings)) (s .file) (suc left) N) (restoreOf s (configNumber N))
+    unfolding verify RestOfGuide.restore RestOfGuide.crcAt RestOfGuide.crcRead writeOf framed restoreOf atConfig withPosition withStage withSent
+    restore-fits left N e =
+        moved-fits text ls s (atConfig (s .position) (configNumber N)) Restore _ _ (omega arith) (restore left e) (omega arith) K
 
-  pub first-restore-fits : (k : ℕ) → s .file .configs ≡ k → Bounds text ls s (s .file .lines + 9 + s .settings .limit)
-      → Fits text ls s (verify (s .file) (s .settings .restore) k 0) (restoreOf s (configNumber 0))
-  first-restore-fits zero e b = absurd (let y : ⊥ = omega arith in y)
-  first-restore-fits (suc left) e b = restore-fits left 0 (omega arith) (omega arith) (b .low) (b .high) (b .polling)
+    pub first-restore-fits : (k : ℕ) → s .file .configs ≡ k
+        → Fits text ls s (verify (termsOf (s .settings)) (s .file) k 0) (restoreOf s (configNumber 0))
+    first-restore-fits zero e = absurd (let y : ⊥ = omega arith in y)
+    first-restore-fits (suc left) e = restore-fits left 0 (omega arith)
 
-  module _ (b : Bounds text ls s (s .file .lines + 12 + s .settings .limit + 3 * config text ls s)) where
     next-restore-fits : (left : ℕ) → config text ls s + suc left ≡ s .file .configs
-        → Fits text ls s (verify (s .file) (s .settings .restore) left (config text ls s + 1)) (restoreNextOf s)
+        → Fits text ls s (verify (termsOf (s .settings)) (s .file) left (config text ls s + 1)) (restoreNextOf s)
     unfolding restoreNextOf verify
     next-restore-fits zero e = rw (le-ltb (config text ls s + 1) (s .file .configs) (omega arith)) (end-fits text ls s Done)
     next-restore-fits (suc left) e =
         rw (lt-ltb (config text ls s + 1) (s .file .configs) (omega arith))
-        (restore-fits left (config text ls s + 1) (omega arith) (omega arith) (b .low) (b .high) (b .polling))
+        (restore-fits left (config text ls s + 1) (omega arith))
 
     pub crc-fits : (left w : ℕ) → config text ls s + suc left ≡ s .file .configs
         → Fits text ls s
-        (cond (eqb w (crcIn (s .file) (config text ls s))) (verify (s .file) (s .settings .restore) left (config text ls s + 1))
+        (cond (eqb w (crcIn (s .file) (config text ls s))) (verify (termsOf (s .settings)) (s .file) left (config text ls s + 1))
         (done (Mismatch (s .position .config))))
         (crcDoneOf s w)
     unfolding crcDoneOf

@@ -16,6 +16,9 @@ use Rattle.image.specs.Says.{word}
 use Rattle.image.specs.Meets.{dataIn, numbered, Meets}
 use Rattle.image.proofs.LinesAndBytes.{spells-at}
 use Rattle.guide.specs.Matched.{Fits}
+use Rattle.guide.specs.declared.Words.{Words}
+use Rattle.guide.specs.Guide.{targetOf}
+use Rattle.demands.proofs.PremisesGive.{kept}
 
 -- ---- a device that the file fits
 
@@ -23,14 +26,18 @@ unfoldable pub counterFor : Kind → ℕ
 counterFor Legacy = 27
 counterFor Production = 28
 
-pub counter-is : (kind : Kind) → (8 ≤ counterFor kind) × (counterFor kind ≤ 28)
+pub counter-is : (kind : Kind) → (27 ≤ counterFor kind) × (counterFor kind ≤ 28)
 unfolding counterFor
 counter-is Legacy = (omega arith, omega arith)
 counter-is Production = (omega arith, omega arith)
 
-pub fitting : (file : Summary) → file .configs ≤ 8 → Fits file (counterFor (file .kind)) (file .identity) 0 100663296
+-- revision 06, and a counter with places for eight configurations beside those kept free
+abbrev pub fittingWords : Summary → Words
+fittingWords file = record { counter = counterFor (file .kind); identity = file .identity; flag = 0; revision = 100663296 }
+
+pub fitting : (file : Summary) (kept : ℕ) → file .configs + kept ≤ 27 → Fits (targetOf file) kept (fittingWords file)
 unfolding counterFor
-fitting file few =
+fitting file kept few =
     let c = counter-is (file .kind) in
     record { counted = c .1; same = refl; young = omega arith; kind = by (file .kind) refl 0 refl; places = omega arith }
   where

@@ -14,58 +14,67 @@ use Rattle.summary.specs.declared.FileAnswer.{FileAnswer}
 use Rattle.summary.specs.declared.FileAnswer.the-variants.{Accepted, Refused}
 use Rattle.image.specs.Check.{checkOf}
 use Rattle.summary.specs.Answers.{answerTold}
-use Rattle.image.specs.Says.{summaryOf}
 use Rattle.image.specs.Meets.{numbered, Spelled, none, line, Meets}
 use Rattle.image.proofs.LinesAndBytes.{spelled-length}
 use Rattle.bus.specs.declared.Request.{Request}
-use Rattle.guide.specs.Plan.{Reply, fileLine, Asked, Plan, requests}
-use Rattle.guide.specs.Guide.{lines, writeLinesOf, guideFor}
-use Rattle.guide.specs.Matched.{Matched}
+use Rattle.guide.specs.Plan.{Reply, fileLine, Asked, Plan, requests, bare}
+use Rattle.guide.specs.Guide.{lines, writeLinesOf, guideFor, targetOf}
+use Rattle.guide.specs.Matched.{Matched, askedIn, opening}
 use Rattle.guide.specs.Statements.{burnsIn, beforeBurn, spellings, SpelledOnce, AllInForm}
 use Rattle.guide.proofs.Through.{asked}
 use Rattle.guide.proofs.Every.{behind}
-use Rattle.guide.proofs.GateHolds.{Reached, reached}
+use Rattle.guide.proofs.GateHolds.{Reached, reached, gate-holds}
 use Rattle.guide.proofs.Burning.{burns-behind, before-behind, no-burns}
-use Rattle.guide.proofs.OfText.{accepted-gate, accepted-burns, accepted-spelled}
 use Rattle.guide.specs.declared.Verdict.the-variants.{Setting, File}
 use Rattle.session.specs.declared.Settings.{Settings}
 use Rattle.session.specs.Sound.{allowedOf}
 use Rattle.session.specs.Begin.{answeredOf, checkedOf, beginOf}
-use Rattle.demands.specs.Runs.{guideOf, bare}
+use Rattle.demands.specs.Runs.{sent}
 use Rattle.demands.specs.Demands.{Premises}
-use Rattle.demands.specs.Headline.{asItStands, allAsTheyStand, burn, MayBurn, out, Headline}
-use Rattle.demands.proofs.PremisesGive.{taken, meets}
+use Rattle.demands.specs.Headline.{targetIn, asItStands, allAsTheyStand, burn, MayBurn, Headline}
+use Rattle.demands.proofs.PremisesGive.{meets, says, facts}
 use Rattle.demands.proofs.Demand2.{demand2}
-use Rattle.demands.proofs.Demand3.{bare-append, bare-length}
+use Rattle.demands.proofs.Demand3.{bare-append}
 use Rattle.demands.proofs.SettingsSay.{allowed-is, not-reserved, refused-sends}
 use Rattle.demands.proofs.LinesAsTheyStand.{burn-stands}
 use Rattle.demands.proofs.BurnReached.{marked, marked-bare, Reach, reach}
 use Rattle.demands.proofs.BurnSpelled.{spellings-append, burn-spelled, mem-spelled, said-in-form, guide-made}
+use Rattle.session.specs.Terms.{termsOf}
+use Rattle.guide.specs.Terms.{Terms}
+use Rattle.guide.proofs.BurnsHold.{burns-hold}
+use Rattle.guide.proofs.MarksTell.{spelled-once}
+use Rattle.summary.specs.declared.Summary.{Summary}
 
 spelled-drop : (k : ℕ) {ts vs : List (List ℕ)} → Spelled ts vs → Spelled (drop k ts) (drop k vs)
 spelled-drop zero s = s
 spelled-drop (suc k) none = none
 spelled-drop (suc k) (line t v ts vs x s) = spelled-drop k s
 
-module _ (S : Settings) (text : List ℕ) (rs : List Reply) (P : Premises S text) where
+module _ {S : Settings} {text : List ℕ} {file : Summary} (P : Premises S text file) (rs : List Reply) where
+  abbrev T : Terms
+  T = termsOf S
+
   abbrev n : ℕ
-  n = summaryOf text .lines
+  n = file .lines
 
   abbrev rest : Plan
-  rest = behind (summaryOf text) (S .limit) (S .restore)
+  rest = behind T file
 
   abbrev list : List Asked
-  list = requests (guideOf S text) rs
+  list = requests (guideFor T file text) rs
 
   abbrev m : Meets text
-  m = meets S text P
+  m = meets P
 
   abbrev vs : List (List ℕ)
   vs = m .values
 
   sizes : (n ≡ length vs) × (12 ≤ length vs) × (length (drop 4 vs) ≡ length vs - 4)
-  unfolding summaryOf
-  sizes = (spelled-length (m .spelled), omega (arith, m .meets .count, m .meets .some), length-drop 4 vs)
+  sizes = (facts P .lines ∙ spelled-length (m .spelled), omega (arith, m .meets .count, m .meets .some), length-drop 4 vs)
+
+  -- the summary asks what the bytes of the lines ask
+  same-target : targetOf file ≡ targetIn m
+  same-target = ap (λ (f : Summary). targetOf f) (P .summary) ∙ rw (says P .kind, says P .identity, says P .configs)
 
   -- write line j, counted from 0, is line 5 + j
   formed : (j : ℕ) → j < length (drop 4 vs) → LineForm (5 + j) (getD (drop 4 vs) j [])
@@ -75,16 +84,24 @@ module _ (S : Settings) (text : List ℕ) (rs : List Reply) (P : Premises S text
 
   spells : spellings list ≡ burnsIn n list
   unfolding SpelledOnce
-  spells = accepted-spelled text (taken S text P) (S .wanted) (S .limit) (S .restore) rs (not-reserved S (P .allowed))
+  spells = spelled-once T file text (facts P) rs (not-reserved S (P .allowed))
 
   module _ (some : 1 ≤ burnsIn n list) where
-    matched : Matched (summaryOf text) (S .wanted) rs
-    matched =
-        ⊎-elim (λ x. x) (λ e. absurd (let y : ⊥ = omega (arith, no-burns n list e) in y))
-        (accepted-gate text (taken S text P) (S .wanted) (S .limit) (S .restore) rs .unless)
+    was-matched : Matched T (targetOf file) rs
+    was-matched =
+        ⊎-elim (λ x. x) (λ e. absurd (let y : ⊥ = omega (arith, no-burns n list e) in y)) (gate-holds T file text (facts P) rs .unless)
 
-    at3 : Reached (summaryOf text) (writeLinesOf text) (S .wanted) (S .limit) (S .restore) rs
-    at3 = reached (summaryOf text) (writeLinesOf text) (S .wanted) (S .limit) (S .restore) rs matched
+    matched : Matched T (targetIn m) rs
+    matched =
+        record {
+          captured = was-matched .captured;
+          read = was-matched .read;
+          came = was-matched .came;
+          fits = rw same-target at (was-matched .fits);
+        }
+
+    at3 : Reached T file (writeLinesOf text) rs was-matched
+    at3 = reached T file (writeLinesOf text) rs was-matched
 
     found : Reach n rest 5 (drop 4 (linesOf text)) (drop 4 vs) (at3 .last)
     unfolding guideFor writeLinesOf
@@ -115,7 +132,7 @@ module _ (S : Settings) (text : List ℕ) (rs : List Reply) (P : Premises S text
     unfolding guideFor writeLinesOf
     one =
         let b : beforeBurn n list ≡ earlier = rw (at3 .list) (before-behind n (at3 .before) _ (at3 .plain) ∙ rw (found .cut)) in
-        accepted-burns text (taken S text P) (S .wanted) (S .limit) (S .restore) rs .once matched (rw b in-form)
+        burns-hold T file text (facts P) rs .once was-matched (rw b in-form)
 
     -- the burn's own spelling is the only one
     alone : (spellings earlier ≡ 0) × (spellings (found .behind) ≡ 0)
@@ -125,47 +142,48 @@ module _ (S : Settings) (text : List ℕ) (rs : List Reply) (P : Premises S text
         = sym (ap spellings whole ∙ spellings-append earlier _ ∙ rw burn-spelled) ∙ (spells ∙ one) in
         (omega arith, omega arith)
 
-    earlier-bare : bare earlier ≡ bare (at3 .before) ++ allAsTheyStand (found .sofar)
-    earlier-bare = bare-append (at3 .before) _ ∙ rw (marked-bare 5 (found .sofar))
+    abbrev asking : List Request
+    asking = askedIn (opening (T .wanted) (was-matched .captured) (was-matched .read))
 
-    may-burn : MayBurn S text rs
-    unfolding bare
+    earlier-bare : bare earlier ≡ asking ++ allAsTheyStand (found .sofar)
+    earlier-bare = bare-append (at3 .before) _ ∙ rw (at3 .asked, marked-bare 5 (found .sofar))
+
+    may-burn : MayBurn T text rs (sent text (beginOf S text) rs)
+    unfolding bare matched
     may-burn =
         record {
           meets = m;
-          allowed = allowed-is S (P .allowed);
+          allowed = P .allowed;
           matched = matched;
-          opening = bare (at3 .before);
           lines = found .sofar;
-          behind = bare (found .behind);
-          opened = bare-length (at3 .before) ∙ at3 .size;
           last = found .last;
           theFile = found .values;
           lineN = last-burns;
+          behind = bare (found .behind);
           order =
-              demand2 S text P rs .sameRequests ∙ ap bare whole ∙ bare-append earlier _
-              ∙ rw (earlier-bare) (append-assoc (bare (at3 .before)) _ _);
+              demand2 P rs .sameRequests ∙ ap bare whole ∙ bare-append earlier _ ∙ rw earlier-bare (append-assoc asking _ _);
           earlier =
               rw (← earlier-bare)
-              (said-in-form earlier rs (λ q x. guide-made text (S .wanted) (S .limit) (S .restore) rs q (rw whole (Memᴰ·append-left _ x))) in-form);
+              (said-in-form earlier rs (λ q x. guide-made T file text rs q (rw whole (Memᴰ·append-left _ x))) in-form);
           notBefore = λ x. omega (arith, mem-spelled earlier (rw earlier-bare x), alone .0);
           notBehind = λ x. omega (arith, mem-spelled (found .behind) x, alone .1);
         }
 
-  pub burn-allowed : List·Memᴰ burn (out S text rs) → MayBurn S text rs
-  burn-allowed b = may-burn (rw spells at (mem-spelled list (rw (demand2 S text P rs .sameRequests) at b)))
+  pub burn-allowed : Headline T text rs (sent text (beginOf S text) rs)
+  unfolding Headline
+  burn-allowed b = may-burn (rw spells at (mem-spelled list (rw (demand2 P rs .sameRequests) at b)))
 
 -- ---- of all settings and texts: a refused start puts nothing out
 
 no-burn : {A : Type 0} {qs : List Request} → qs ≡ [] → List·Memᴰ burn qs → A
 no-burn e b = absurd (List·Memᴰ·not-nil (rw e at b))
 
-pub headline : (S : Settings) (text : List ℕ) (rs : List Reply) → Headline S text rs
+pub headline : (S : Settings) (text : List ℕ) (rs : List Reply) → Headline (termsOf S) text rs (sent text (beginOf S text) rs)
 unfolding Headline beginOf checkedOf answeredOf
 headline S text rs b =
     split (allowedOf S) (λ e. by-file e (checkOf text .answer) refl)
     (λ e. no-burn (rw e (refused-sends S text Setting rs)) b)
   where
-    by-file : allowedOf S ≡ true → (a : FileAnswer) → checkOf text .answer ≡ a → MayBurn S text rs
-    by-file e Accepted h = burn-allowed S text rs (record { accepted = ap (λ a. answerTold a .number) h; allowed = e }) b
+    by-file : allowedOf S ≡ true → (a : FileAnswer) → checkOf text .answer ≡ a → MayBurn (termsOf S) text rs (sent text (beginOf S text) rs)
+    by-file e Accepted h = burn-allowed (record { accepted = ap (λ a. answerTold a .number) h; summary = refl; allowed = allowed-is S e }) rs b
     by-file e (Refused r) h = no-burn (rw (e, h) (refused-sends S text (File r) rs)) b

@@ -8,7 +8,6 @@ pub mod SessionIsGuide
 pub mod PremisesGive
 pub mod Demand2
 pub mod Demand3
-pub mod Demand1
 pub mod LinesAsTheyStand
 pub mod BurnReached
 pub mod BurnSpelled
@@ -17,3 +16,14 @@ pub mod Headline
 pub mod RepliesInForm
 pub mod FittingDevice
 pub mod CanEnd
+pub mod Cases
+pub mod SettingsOut
+pub mod Spoiled
+pub mod EveryStep
+pub mod Refusing
+pub mod FifteenExactly
+pub mod CarriesOn
+pub mod BeginsSo
+pub mod FourteenExactly
+pub mod AsAsked
+pub mod Blind

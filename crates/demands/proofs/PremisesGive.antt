@@ -14,20 +14,22 @@ use Rattle.cuts.specs.Lines.{linesOf}
 use Rattle.summary.specs.declared.FileAnswer.the-variants.{Accepted}
 use Rattle.image.specs.Says.{summaryOf}
 use Rattle.image.specs.Check.{checkOf}
-use Rattle.image.specs.Meets.{Meets}
+use Rattle.image.specs.Meets.{Meets, SummarySays}
 use Rattle.image.proofs.Holds.{Sound}
 use Rattle.image.proofs.WalkSays.{lineSays, saysOf}
 use Rattle.image.proofs.TestsPass.{answer-is, summary-is}
 use Rattle.image.proofs.AcceptedExactly.{zero-accepts, accepted-exactly}
 use Rattle.image.proofs.AcceptedHolds.{held-writes, burn-writes, sound}
 use Rattle.guide.specs.Guide.{linesAs, writeLinesOf}
-use Rattle.guide.proofs.FileFacts.{lines-are, some-line}
-use Rattle.guide.proofs.OfText.{accepted-facts}
+use Rattle.guide.proofs.FileFacts.{lines-are, some-line, FileFacts}
+use Rattle.guide.proofs.OfText.{meets-facts}
 use Rattle.session.specs.declared.Settings.{Settings}
 use Rattle.session.specs.Sound.{all, idsSound, fileTests, fileSound}
 use Rattle.demands.specs.Demands.{Premises}
 use Rattle.demands.proofs.WhereItStands.{Kept}
-use Rattle.demands.proofs.SettingsSay.{allowed-is}
+use Rattle.demands.proofs.SettingsSay.{is-allowed}
+use Rattle.image.proofs.SummarySays.{summary-says}
+use Rattle.summary.specs.declared.Summary.{Summary}
 
 -- ---- the file
 
@@ -45,21 +47,14 @@ ids-sound ids zero f = refl
 ids-sound [] (suc k) f = refl
 ids-sound (i ∷ is) (suc k) f = rw (le-leb (i .0) 15 (f 0 (omega arith))) (ids-sound is k (λ N h. f (suc N) (omega arith)))
 
-module _ (S : Settings) (text : List ℕ) (P : Premises S text) where
-  pub taken : checkOf text .answer ≡ Accepted
-  taken = zero-accepts (checkOf text .answer) (P .accepted)
+module _ (text : List ℕ) (taken : checkOf text .answer ≡ Accepted) where
+  abbrev file : Summary
+  file = checkOf text .summary
 
-  pub told : checkOf text .summary ≡ summaryOf text
-  told = summary-is text (sym (answer-is text) ∙ taken)
-
-  pub meets : Meets text
-  meets = accepted-exactly text .accepted-meets (P .accepted)
-
-  file-sound : fileSound (summaryOf text) ≡ true
+  file-sound : fileSound file ≡ true
   unfolding fileSound fileTests all
   file-sound =
-      let f : Sound (summaryOf text) = rw told at (sound text taken) in
-      let file = summaryOf text in
+      let f : Sound file = sound text taken in
       rw (
         le-leb 1 (file .configs) (f .some),
         le-leb (file .configs) 8 (f .few),
@@ -67,19 +62,33 @@ module _ (S : Settings) (text : List ℕ) (P : Premises S text) where
         ids-sound (file .ids) (file .configs) (f .ids),
       )
 
-  pub kept : Kept text (writeLinesOf text) S (summaryOf text)
+module _ {S : Settings} {text : List ℕ} {file : Summary} (P : Premises S text file) where
+  pub taken : checkOf text .answer ≡ Accepted
+  taken = zero-accepts (checkOf text .answer) (P .accepted)
+
+  pub meets : Meets text
+  meets = accepted-exactly text .accepted-meets (P .accepted)
+
+  -- what the summary says of the text
+  pub says : SummarySays text meets
+  says = summary-says meets
+
+  pub facts : FileFacts file text
+  facts = rw (P .summary) (meets-facts text meets)
+
+  pub kept : Kept text (writeLinesOf text) S file
   unfolding writeLinesOf
   kept =
-      let f : Sound (summaryOf text) = rw told at (sound text taken) in
       let ls : drop 4 (saysOf (linesOf text)) ≡ writeLinesOf text = says-drop 4 (linesOf text) in
-      let facts = accepted-facts text taken in
+      let f : Sound file = rw (P .summary) (sound text taken) in
+      let told : checkOf text .summary ≡ summaryOf text = summary-is text (sym (answer-is text) ∙ taken) in
       record {
-        allowed = P .allowed;
-        sound = file-sound;
-        somePoll = allowed-is S (P .allowed) .some;
+        allowed = is-allowed S (P .allowed);
+        sound = rw (P .summary) (file-sound text taken);
+        somePoll = P .allowed .some;
         someConfig = f .some;
         someLine = some-line text facts;
         linesAre = lines-are text facts;
-        holds = rw ls at (held-writes text taken);
+        holds = rw (P .summary, told, ← ls) (held-writes text taken);
         burns = rw ls at (burn-writes text taken);
       }

@@ -19,6 +19,9 @@ use Rattle.guide.specs.Guide.{lineRequest, crcIn}
 use Rattle.guide.specs.Matched.{Exchange, wrote, got, Heard, none, more, opening}
 use Rattle.guide.specs.Statements.{heard3, heard6}
 use Rattle.demands.specs.Demands.{OfBytes}
+use Rattle.guide.specs.Terms.{Terms}
+use Rattle.guide.specs.declared.Words.{Words}
+use Rattle.demands.specs.Runs.{sent}
 
 abbrev Can : Exchange → Type 0
 Can x = (r : Reply) × (formOf (x .request) (r .kind) (r .bytes) ≡ Good (x .word)) × OfBytes r
@@ -101,18 +104,18 @@ module _ (w : ℕ) (h : w < 4294967296) where
 
 -- ---- the steps
 
-pub able-opening : (wanted : Bool) (counter identity flag revision : ℕ)
-    → counter < 4294967296 → identity < 4294967296 → flag < 4294967296 → revision < 4294967296
-    → Able (opening wanted 0 counter identity flag revision)
+pub able-opening : (wanted : Bool) (read : Words)
+    → read .counter < 4294967296 → read .identity < 4294967296 → read .flag < 4294967296 → read .revision < 4294967296
+    → Able (opening wanted 0 read)
 unfolding opening writeOf
-able-opening wanted counter identity flag revision e f g h = by wanted
+able-opening wanted read e f g h = by wanted
   where
-    step2 : Able (opening false 0 counter identity flag revision)
+    step2 : Able (opening false 0 read)
     step2 =
-        and (can-write _ _) (and (can-read counter e) (and (can-block identity f _)
-        (and (can-write _ _) (and (can-read flag g) (and (can-block revision h _) end)))))
+        and (can-write _ _) (and (can-read (read .counter) e) (and (can-block (read .identity) f _)
+        (and (can-write _ _) (and (can-read (read .flag) g) (and (can-block (read .revision) h _) end)))))
 
-    by : (b : Bool) → Able (opening b 0 counter identity flag revision)
+    by : (b : Bool) → Able (opening b 0 read)
     by true = and (can-write _ _) (and (can-read 0 (omega arith)) (and (can-write _ _) (and (can-write _ _) step2)))
     by false = step2
 
@@ -121,9 +124,9 @@ unfolding heard3 lineRequest
 able-lines [] = end
 able-lines (l ∷ ls) = and (can-write _ _) (able-lines ls)
 
-pub able-crcs : (file : Summary) (restore left N : ℕ) → ((i : ℕ) → i < N + left → crcIn file i < 4294967296) → Able (heard6 file restore left N)
+pub able-crcs : (T : Terms) (file : Summary) (left N : ℕ) → ((i : ℕ) → i < N + left → crcIn file i < 4294967296) → Able (heard6 T file left N)
 unfolding heard6 writeOf
-able-crcs file restore zero N f = end
-able-crcs file restore (suc left) N f =
+able-crcs T file zero N f = end
+able-crcs T file (suc left) N f =
     and (can-write _ _) (and (can-write _ _) (and (can-read (crcIn file N) (f N (omega arith)))
-    (able-crcs file restore left (N + 1) (λ i h. f i (omega arith)))))
+    (able-crcs T file left (N + 1) (λ i h. f i (omega arith)))))

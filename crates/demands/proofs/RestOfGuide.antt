@@ -13,24 +13,24 @@ use Rattle.guide.specs.declared.Reason.the-variants.{Banks}
 use Rattle.guide.specs.declared.Verdict.the-variants.{Mismatch, Halted}
 use Rattle.guide.specs.Plan.{Plan, done, fileLine}
 use Rattle.guide.specs.Judged.{cleared, fitOf, banksRight}
-use Rattle.guide.specs.Guide.{put, write, read, step1, gate, step2, lineRequest, lines, polls, step4, step5, idIn, crcIn, verify, step6, guide}
-use Rattle.session.specs.declared.Settings.{Settings}
+use Rattle.guide.specs.Guide.{put, write, read, step1, gate, step2, lineRequest, lines, polls, step4, step5, idIn, crcIn, verify, step6, guide, targetOf}
+use Rattle.guide.specs.Terms.{Terms}
 
-module _ (file : Summary) (ls : List Line) (S : Settings) where
+module _ (T : Terms) (file : Summary) (ls : List Line) where
   -- step 6, for configuration N, with so many left behind it
   unfoldable pub crcRead : ℕ → ℕ → Plan
   crcRead left N =
-      read readData λ crc. cond (eqb crc (crcIn file N)) (verify file (S .restore) left (N + 1)) (done (Mismatch (configNumber N)))
+      read readData λ crc. cond (eqb crc (crcIn file N)) (verify T file left (N + 1)) (done (Mismatch (configNumber N)))
 
   unfoldable pub crcAt : ℕ → ℕ → Plan
   crcAt left N = write (pointTo 0x94 0x00) (crcRead left N)
 
   unfoldable pub restore : ℕ → ℕ → Plan
-  restore left N = write (writeOf (S .restore) (idIn file N ∷ [])) (crcAt left N)
+  restore left N = write (writeOf (T .restore) (idIn file N ∷ [])) (crcAt left N)
 
   -- step 5
   unfoldable pub banksRead : Plan
-  banksRead = read readData λ banks. cond (banksRight (file .configs) banks) (step6 file (S .restore)) (done (Halted Banks))
+  banksRead = read readData λ banks. cond (banksRight (file .configs) banks) (step6 T file) (done (Halted Banks))
 
   unfoldable pub banksAt : Plan
   banksAt = write (pointTo 0x7F 0x00) banksRead
@@ -40,7 +40,7 @@ module _ (file : Summary) (ls : List Line) (S : Settings) where
   statusRead left = polls left banksAt
 
   unfoldable pub statusAt : Plan
-  statusAt = write (pointTo 0x7E 0x00) (statusRead (S .limit))
+  statusAt = write (pointTo 0x7E 0x00) (statusRead (T .limit))
 
   -- step 3, from line i on
   unfoldable pub linesFrom : ℕ → List Line → Plan
@@ -53,7 +53,7 @@ module _ (file : Summary) (ls : List Line) (S : Settings) where
   unfoldable pub revisionRead : ℕ → ℕ → ℕ → Plan
   revisionRead counter identity flag =
       read (readBlock 0xAE) λ revision.
-      gate (fitOf (file .kind) (file .identity) (file .configs) 0 counter identity flag revision) (linesFrom 5 ls)
+      gate (fitOf (targetOf file) (T .kept) (record { counter = counter; identity = identity; flag = flag; revision = revision })) (linesFrom 5 ls)
 
   unfoldable pub flagRead : ℕ → ℕ → Plan
   flagRead counter identity = read readData λ flag. revisionRead counter identity flag
@@ -83,6 +83,6 @@ module _ (file : Summary) (ls : List Line) (S : Settings) where
   unfoldable pub captureAt : Plan
   captureAt = write (pointTo 0xA2 0x00) captureRead
 
-  pub guide-is : guide file ls (S .wanted) (S .limit) (S .restore) ≡ cond (S .wanted) captureAt counterAt
+  pub guide-is : guide T file ls ≡ cond (T .wanted) captureAt counterAt
   unfolding guide step1 step2 step4 step5 captureAt captureRead captureWrite captureApply counterAt counterRead identityRead flagAt flagRead revisionRead linesFrom statusAt statusRead banksAt banksRead
   guide-is = refl

@@ -2,7 +2,7 @@
 use mathlib.Core.Path.{_≡_, refl, sym, ap, _∙_}
 use mathlib.Core.List.{List, [], _∷_}
 use mathlib.Core.Bool.{Bool, true, false, cond, _||_, or-false, or-assoc}
-use Prim.Native.Nat.{ℕ, suc, _+_}
+use Prim.Native.Nat.{ℕ, suc, _+_, _≤_}
 use native.Mathlib.Omega.{arith}
 use lib.Dec.{leb}
 use lib.ListN.{length}
@@ -11,7 +11,7 @@ use Rattle.counts.specs.Counts.{firstLine}
 use Rattle.line.specs.declared.Line.{Line}
 use Rattle.summary.specs.declared.Summary.{Summary}
 use Rattle.bus.specs.Bus.{framed, writeOf}
-use Rattle.guide.specs.Plan.{Reply, Asked, Plan, ask, done, requests, verdict}
+use Rattle.guide.specs.Plan.{Reply, Asked, Plan, ask, done, requests, verdict, bare}
 use Rattle.guide.specs.Guide.{guide}
 use Rattle.guide.specs.Statements.{isBurnMark, burnsIn}
 use Rattle.session.specs.declared.Settings.{Settings}
@@ -20,13 +20,16 @@ use Rattle.session.specs.declared.Handed.{Handed}
 use Rattle.session.specs.declared.Stage.the-variants.{Open}
 use Rattle.session.specs.declared.Awaited.the-variants.{CaptureAt, CounterAt}
 use Rattle.session.specs.Moves.{withStage, withSent}
+use Rattle.session.specs.Sound.{mostSent}
 use Rattle.session.specs.Begin.{newPosition, freshOf, firstOf, startOf}
 use Rattle.session.specs.Reply.{replyOf}
-use Rattle.demands.specs.Runs.{sent, after, bare, answerFor}
+use Rattle.demands.specs.Runs.{sent, after}
 use Rattle.demands.proofs.RestOfGuide
 use Rattle.demands.proofs.WhereItStands.{Kept, capture-at, counter-at}
 use Rattle.demands.proofs.FitsCall.{rootOf, sizeOf, burnOf, Fits, other-fits, cond-fits}
 use Rattle.demands.proofs.FitsReply.{onward, reply-fits}
+use Rattle.session.specs.Terms.{termsOf}
+use Rattle.demands.specs.Demands.{answerFor}
 
 -- one request more, the burn or not
 some-burn : (b : Bool) (x : ℕ) → (b || leb 1 x) ≡ leb 1 (cond b (suc x) x)
@@ -44,18 +47,30 @@ module _ (text : List ℕ) (ls : List Line) where
     pub counting : after text t rs .session .sent ≡ s .sent + length (requests p rs)
     pub burning : after text t rs .session .burned ≡ (s .burned || burnt (requests p rs))
 
-  along : (s : Session) (t : Handed) (p : Plan) → Fits text ls s p t → (rs : List Reply) → Along s t p rs
+  -- from the state s, whatever the replies, the guide's rest stays within what 15 allows
+  abbrev pub Room : Session → Plan → Type 0
+  Room s p = (rs : List Reply) → s .sent + length (requests p rs) ≤ mostSent s
+
+  room-next : (s : Session) (t : Handed) (p : Plan) → Fits text ls s p t → Room s p
+      → (t .session .sent ≤ mostSent (t .session)) × ((r : Reply) → Room (t .session) (onward p r))
+  unfolding requests sizeOf mostSent onward
+  room-next s t (ask q next) f n =
+      rw (f .settings, f .file) (omega (arith, f .counting, n []), λ r rs. omega (arith, f .counting, n (r ∷ rs)))
+  room-next s t (done v) f n = rw (f .settings, f .file) (omega (arith, f .counting, n []), λ r rs. omega (arith, f .counting, n rs))
+
+  along : (s : Session) (t : Handed) (p : Plan) → Fits text ls s p t → Room s p → (rs : List Reply) → Along s t p rs
   unfolding sent after requests bare verdict rootOf sizeOf burnsIn burnOf onward answerFor
-  along s t (ask q next) f [] =
+  along s t (ask q next) f n [] =
       record {
         sends = f .out;
         says = f .says;
         counting = f .counting;
         burning = f .burning ∙ ap (λ x. s .burned || x) (sym (or-false _) ∙ some-burn (isBurnMark (4 + length ls) (q .mark)) 0);
       }
-  along s t (ask q next) f (r ∷ rs) =
+  along s t (ask q next) f n (r ∷ rs) =
+      let m = room-next s t (ask q next) f n in
       let a : Along (t .session) (replyOf text (t .session) (r .kind) (r .bytes)) (next r) rs
-      = along (t .session) _ (next r) (reply-fits text ls (t .session) (f .sim) r) rs in
+      = along (t .session) _ (next r) (reply-fits text ls (t .session) (f .sim) (m .0) r) (m .1 r) rs in
       record {
         sends = rw (f .out, a .sends);
         says = a .says;
@@ -65,10 +80,11 @@ module _ (text : List ℕ) (ls : List Line) where
             ∙ (ap (λ x. x || burnt (requests (next r) rs)) (f .burning)
             ∙ (or-assoc (s .burned) _ _ ∙ ap (λ x. s .burned || x) (some-burn (isBurnMark (4 + length ls) (q .mark)) _)));
       }
-  along s t (done v) f [] = record { sends = f .out; says = f .says; counting = f .counting; burning = f .burning }
-  along s t (done v) f (r ∷ rs) =
+  along s t (done v) f n [] = record { sends = f .out; says = f .says; counting = f .counting; burning = f .burning }
+  along s t (done v) f n (r ∷ rs) =
+      let m = room-next s t (done v) f n in
       let a : Along (t .session) (replyOf text (t .session) (r .kind) (r .bytes)) (done v) rs
-      = along (t .session) _ (done v) (reply-fits text ls (t .session) (f .sim) r) rs in
+      = along (t .session) _ (done v) (reply-fits text ls (t .session) (f .sim) (m .0) r) (m .1 r) rs in
       record {
         sends = rw (f .out, a .sends);
         says = a .says;
@@ -81,13 +97,13 @@ module _ (text : List ℕ) (ls : List Line) where
     abbrev pub before : Session
     before = freshOf S file (Open CaptureAt) (newPosition firstLine (file .line5))
 
-    start-fits : Fits text ls before (guide file ls (S .wanted) (S .limit) (S .restore)) (startOf S file)
+    start-fits : Fits text ls before (guide (termsOf S) file ls) (startOf S file)
     unfolding startOf freshOf newPosition firstOf withStage withSent writeOf framed isBurnMark RestOfGuide.captureAt RestOfGuide.counterAt
     start-fits =
-        rw (RestOfGuide.guide-is file ls S)
+        rw (RestOfGuide.guide-is (termsOf S) file ls)
         (cond-fits text ls before (S .wanted)
-        (other-fits text ls before before CaptureAt _ _ 1 refl refl (omega arith) (capture-at (omega arith)) (omega arith) K)
-        (other-fits text ls before before CounterAt _ _ 5 refl refl (omega arith) (counter-at (omega arith)) (omega arith) K))
+        (other-fits text ls before CaptureAt _ _ (omega arith) (capture-at (omega arith)) (omega arith) K)
+        (other-fits text ls before CounterAt _ _ (omega arith) (counter-at (omega arith)) (omega arith) K))
 
-    pub start-along : (rs : List Reply) → Along before (startOf S file) (guide file ls (S .wanted) (S .limit) (S .restore)) rs
-    start-along rs = along before (startOf S file) _ start-fits rs
+    pub start-along : Room before (guide (termsOf S) file ls) → (rs : List Reply) → Along before (startOf S file) (guide (termsOf S) file ls) rs
+    start-along n rs = along before (startOf S file) _ start-fits n rs

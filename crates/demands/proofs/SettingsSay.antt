@@ -4,7 +4,7 @@ use mathlib.Core.Bool.{true, false, not, true≢false}
 use mathlib.Core.List.{List, [], _∷_, List·Memᴰ, List·Memᴰ·head, List·Memᴰ·tail}
 use Prim.Native.Nat.{ℕ}
 use lib.Dec.{leb}
-use borrow.Author.Tests.{leb-true, not-true}
+use borrow.Author.Tests.{leb-true, not-true, ne-eqb, le-leb}
 use Rattle.promise.proofs.Basics.{and-true}
 use Rattle.bus.specs.Bus.{noRequest, reserved}
 use Rattle.guide.specs.declared.Verdict.{Verdict}
@@ -16,6 +16,7 @@ use Rattle.session.specs.Begin.{freshOf, refusedOf}
 use Rattle.session.specs.Reply.{stageOf, replyOf}
 use Rattle.demands.specs.Runs.{putOut, sent}
 use Rattle.demands.specs.Headline.{Allowed}
+use Rattle.session.specs.Terms.{termsOf}
 
 abbrev codes : List ℕ
 codes = 0xC5 ∷ 0xC6 ∷ 0xC7 ∷ 0xE7 ∷ 0xAD ∷ 0xAE ∷ []
@@ -29,6 +30,19 @@ reserved-codes c (List·Memᴰ·tail (List·Memᴰ·tail (List·Memᴰ·tail (Li
 reserved-codes c (List·Memᴰ·tail (List·Memᴰ·tail (List·Memᴰ·tail (List·Memᴰ·tail (List·Memᴰ·head e))))) = rw e
 reserved-codes c (List·Memᴰ·tail (List·Memᴰ·tail (List·Memᴰ·tail (List·Memᴰ·tail (List·Memᴰ·tail (List·Memᴰ·head e)))))) = rw e
 
+-- a code that is none of them
+no-code : (c : ℕ) → (List·Memᴰ c codes → ⊥) → reserved c ≡ false
+unfolding reserved
+no-code c f =
+    rw (
+      ne-eqb c 0xC5 (λ e. f (List·Memᴰ·head e)),
+      ne-eqb c 0xC6 (λ e. f (List·Memᴰ·tail (List·Memᴰ·head e))),
+      ne-eqb c 0xC7 (λ e. f (List·Memᴰ·tail (List·Memᴰ·tail (List·Memᴰ·head e)))),
+      ne-eqb c 0xE7 (λ e. f (List·Memᴰ·tail (List·Memᴰ·tail (List·Memᴰ·tail (List·Memᴰ·head e))))),
+      ne-eqb c 0xAD (λ e. f (List·Memᴰ·tail (List·Memᴰ·tail (List·Memᴰ·tail (List·Memᴰ·tail (List·Memᴰ·head e)))))),
+      ne-eqb c 0xAE (λ e. f (List·Memᴰ·tail (List·Memᴰ·tail (List·Memᴰ·tail (List·Memᴰ·tail (List·Memᴰ·tail (List·Memᴰ·head e))))))),
+    )
+
 module _ (S : Settings) (e : allowedOf S ≡ true) where
   tests : (leb 1 (S .limit) ≡ true) × (leb (S .limit) 10000 ≡ true) × (reserved (S .restore) ≡ false)
   unfolding allowedOf settingTests all
@@ -37,16 +51,21 @@ module _ (S : Settings) (e : allowedOf S ≡ true) where
       let q = and-true (leb (S .limit) 10000) _ (p .1) in
       (p .0, q .0, not-true _ (and-true (not (reserved (S .restore))) true (q .1) .0))
 
-  pub not-reserved : reserved (S .restore) ≡ false
-  not-reserved = tests .2
-
-  pub allowed-is : Allowed S
+  pub allowed-is : Allowed (termsOf S)
   allowed-is =
       record {
         some = leb-true 1 (S .limit) (tests .0);
         few = leb-true (S .limit) 10000 (tests .1);
-        code = λ m. let x = reserved-codes (S .restore) m in true≢false (rw x at not-reserved);
+        code = λ m. let x = reserved-codes (S .restore) m in true≢false (rw x at (tests .2));
       }
+
+module _ (S : Settings) (a : Allowed (termsOf S)) where
+  pub not-reserved : reserved (S .restore) ≡ false
+  not-reserved = no-code (S .restore) (a .code)
+
+  pub is-allowed : allowedOf S ≡ true
+  unfolding allowedOf settingTests all
+  is-allowed = rw (le-leb 1 (S .limit) (a .some), le-leb (S .limit) 10000 (a .few), not-reserved)
 
 pub refused-sends : (S : Settings) (text : List ℕ) (v : Verdict) (rs : List Reply) → sent text (refusedOf S v) rs ≡ []
 unfolding refusedOf freshOf overOf noRequest putOut sent replyOf stageOf

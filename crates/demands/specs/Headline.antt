@@ -1,22 +1,19 @@
 -- The headline: why this fixture may send the last line. It stands alone: no tree and no state, only the requests that were put out,
--- the text, the settings and the replies. `Matched` names what the file says by `summaryOf`, which `SummarySays` (image) ties to the
--- bytes of the lines. Assumes nothing.
+-- the text, the terms that the settings make, and the replies. Assumes nothing.
 use mathlib.Core.Path.{_≡_}
 use mathlib.Core.Bool.{false}
 use mathlib.Core.List.{List, [], _∷_, _++_, List·Memᴰ}
 use Prim.Native.Nat.{ℕ, _-_, _≤_}
 use lib.ListN.{length, drop}
-use Rattle.image.specs.Says.{summaryOf}
-use Rattle.image.specs.Meets.{Meets}
+use Rattle.image.specs.Says.{word}
+use Rattle.image.specs.Meets.{dataIn, numbered, Meets}
 use Rattle.bus.specs.declared.Request.{Request}
 use Rattle.bus.specs.Bus.{eight}
 use Rattle.bus.specs.InForm.{InForm}
+use Rattle.guide.specs.declared.Target.{Target}
+use Rattle.guide.specs.Terms.{Terms}
 use Rattle.guide.specs.Plan.{Reply}
-use Rattle.guide.specs.Matched.{Matched}
-use Rattle.guide.specs.Statements.{openingCount}
-use Rattle.session.specs.declared.Settings.{Settings}
-use Rattle.session.specs.Begin.{beginOf}
-use Rattle.demands.specs.Runs.{sent}
+use Rattle.guide.specs.Matched.{askedIn, opening, Matched}
 
 -- a line goes out as it stands, from its address to its CRC
 abbrev pub asItStands : List ℕ → Request
@@ -37,35 +34,39 @@ pub data Answered : List Request → List Reply → Type 0 where
       → Answered (q ∷ qs) (r ∷ rs)
 
 -- poll limit 1 to 10,000; RESTORE_CFG is none of C5, C6, C7, E7, AD, AE
-pub record Allowed (S : Settings) : Type 0 where
-  pub some : 1 ≤ S .limit
-  pub few : S .limit ≤ 10000
-  pub code : List·Memᴰ (S .restore) (0xC5 ∷ 0xC6 ∷ 0xC7 ∷ 0xE7 ∷ 0xAD ∷ 0xAE ∷ []) → ⊥
+pub record Allowed (T : Terms) : Type 0 where
+  pub some : 1 ≤ T .limit
+  pub few : T .limit ≤ 10000
+  pub code : List·Memᴰ (T .restore) (0xC5 ∷ 0xC6 ∷ 0xC7 ∷ 0xE7 ∷ 0xAD ∷ 0xAE ∷ []) → ⊥
 
-module _ (S : Settings) (text : List ℕ) (rs : List Reply) where
-  -- the requests put out, run from begin, each call given the state last handed back and the same text
-  abbrev pub out : List Request
-  out = sent text (beginOf S text) rs
+-- what a file asks of its device: the kind that its revision names, the identity of line 1, and a place for each configuration
+abbrev pub targetIn : {text : List ℕ} → Meets text → Target
+targetIn m =
+    let one = numbered (m .values) 1 in
+    record {
+      kind = m .meets .kind;
+      identity = word (dataIn 0 one) (dataIn 1 one) (dataIn 2 one) (dataIn 3 one);
+      configs = m .meets .configs;
+    }
 
+-- by the terms, the text, the replies, and the requests put out
+module _ (T : Terms) (text : List ℕ) (rs : List Reply) (out : List Request) where
   pub record MayBurn : Type 0 where
     pub meets : Meets text
-    pub allowed : Allowed S
-    pub matched : Matched (summaryOf text) (S .wanted) rs
-    -- the requests of steps 1 and 2, those of lines 5 to n - 1, and what came behind the burn
-    pub opening : List Request
+    pub allowed : Allowed T
+    pub matched : Matched T (targetIn meets) rs
+    -- lines 5 to n - 1, and line n
     pub lines : List (List ℕ)
-    pub behind : List Request
-    pub opened : length opening ≡ openingCount (S .wanted)
-    -- line n
     pub last : List ℕ
     pub theFile : drop 4 (meets .values) ≡ lines ++ (last ∷ [])
     pub lineN : asItStands last ≡ burn
-    -- all lines 5 to n - 1 went out before it, in order
-    pub order : out ≡ opening ++ (allAsTheyStand lines ++ (burn ∷ behind))
+    -- exactly the requests of steps 1 and 2 went out, then all lines 5 to n - 1, in order, then the burn
+    pub behind : List Request
+    pub order : out ≡ askedIn (opening (T .wanted) (matched .captured) (matched .read)) ++ (allAsTheyStand lines ++ (burn ∷ behind))
     -- every earlier request was answered in form
-    pub earlier : Answered (opening ++ allAsTheyStand lines) rs
+    pub earlier : Answered (askedIn (opening (T .wanted) (matched .captured) (matched .read)) ++ allAsTheyStand lines) rs
     -- it went out once
-    pub notBefore : List·Memᴰ burn (opening ++ allAsTheyStand lines) → ⊥
+    pub notBefore : List·Memᴰ burn (askedIn (opening (T .wanted) (matched .captured) (matched .read)) ++ allAsTheyStand lines) → ⊥
     pub notBehind : List·Memᴰ burn behind → ⊥
 
   -- if the burn was put out, it was allowed to be

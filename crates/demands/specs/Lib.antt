@@ -1,3 +1,5 @@
 pub mod Runs
-pub mod Demands
 pub mod Headline
+pub mod Demands
+pub mod Asked
+pub mod Exactly

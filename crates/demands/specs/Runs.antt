@@ -5,12 +5,8 @@ use mathlib.Core.Bool.{cond}
 use Prim.Native.Nat.{ℕ}
 use lib.Dec.{eqb}
 use Rattle.bus.specs.declared.Request.{Request}
-use Rattle.guide.specs.Plan.{Reply, Asked, Plan, Outcome, waiting, ended}
-use Rattle.guide.specs.Guide.{guideFor}
-use Rattle.session.specs.declared.Settings.{Settings}
+use Rattle.guide.specs.Plan.{Reply}
 use Rattle.session.specs.declared.Handed.{Handed}
-use Rattle.session.specs.declared.Answer.{Answer}
-use Rattle.session.specs.declared.Answer.the-variants.{Next, Over}
 use Rattle.session.specs.Reply.{replyOf}
 
 -- "put out" means handed to the host; a request of zeros is none
@@ -27,18 +23,3 @@ module _ (text : List ℕ) where
   unfoldable pub after : Handed → List Reply → Handed
   after h [] = h
   after h (r ∷ rs) = after (replyOf text (h .session) (r .kind) (r .bytes)) rs
-
--- ---- the guide for this text and these settings
-
-abbrev pub guideOf : Settings → List ℕ → Plan
-guideOf S text = guideFor text (S .wanted) (S .limit) (S .restore)
-
--- the requests alone, without their marks
-unfoldable pub bare : List Asked → List Request
-bare [] = []
-bare (q ∷ qs) = q .request ∷ bare qs
-
--- what a session answers where the guide is there
-unfoldable pub answerFor : Outcome → Answer
-answerFor waiting = Next
-answerFor (ended v) = Over v

@@ -17,18 +17,19 @@ use Rattle.guide.specs.Plan.{Reply, Mark, other, fileLine, Asked, Plan, 
 use Rattle.guide.specs.Guide.{hear, put, lineRequest, lines}
 use Rattle.guide.specs.Statements.{isLine, linesIn, isBurnMark, burnsIn, beforeBurn, AllInForm, none, more}
 use Rattle.guide.proofs.Every.{Every, asks, ends, behind, behind-every}
+use Rattle.guide.specs.Terms.{Terms}
 
 -- ---- plans and lists without write lines
 
-pub plain-lines : {p : Plan} → Every (λ q. isLine (q .mark) ≡ false) p → (rs : List Reply) → linesIn (requests p rs) ≡ []
+pub plain-lines : {most : ℕ} {p : Plan} → Every (λ q. isLine (q .mark) ≡ false) most p → (rs : List Reply) → linesIn (requests p rs) ≡ []
 unfolding requests linesIn
 plain-lines (asks e f) [] = rw e
 plain-lines (asks e f) (r ∷ rs) = rw e (plain-lines (f r) rs)
 plain-lines ends rs = refl
 
-pub behind-plain : (file : Summary) (limit restore : ℕ) (rs : List Reply) → linesIn (requests (behind file limit restore) rs) ≡ []
+pub behind-plain : (T : Terms) (file : Summary) (rs : List Reply) → linesIn (requests (behind T file) rs) ≡ []
 unfolding isLine
-behind-plain file limit restore rs = plain-lines (behind-every file restore (λ q o. refl) limit) rs
+behind-plain T file rs = plain-lines (behind-every T file (λ q o. refl)) rs
 
 no-line : {A : Type 0} {q : Asked} {qs : List Asked} → q ∷ qs ≡ [] → A
 no-line e = let z : _≡_ {A = ℕ} 0 1 = cc in absurd (let y : ⊥ = omega arith in y)

@@ -24,6 +24,7 @@ use Rattle.guide.specs.Statements.{heard3, heard4, heard6}
 use Rattle.guide.proofs.Through.{Came, Through, here, then}
 use Rattle.guide.proofs.Statuses.{Clear, clear-more, busy-is, passed-is, failed-is}
 use Rattle.guide.proofs.Ways.{Keeps, halted-not, bind, bind-write}
+use Rattle.guide.specs.Terms.{Terms}
 
 abbrev pub NotDone : Plan → List Reply → Type 0
 NotDone p rs = verdict p rs ≡ ended Done → ⊥
@@ -75,12 +76,12 @@ module _ {C : Type 0} where
       (λ f. let p = eqb-true (w % 64) 1 f in rw (passed-is w p) (go [] w rs r here c (omega arith) (λ i h. absurd (let y : ⊥ = omega arith in y)) p))
       (λ f. rw (failed-is w (eqb-false (w % 2) 0 e) (eqb-false (w % 64) 1 f)) (over-way r)))
 
-  pub step4-way : (limit : ℕ) (rest : Plan) (rs : List Reply)
+  pub step4-way : (T : Terms) (rest : Plan) (rs : List Reply)
       → ((first : List Reply) → Came (pointTo 0x7E 0x00) 0 rs first → (busy : List ℕ) (w : ℕ) (mid last : List Reply)
-      → Through (heard4 busy) first mid → Came readData w mid last → length busy < limit → Clear busy → w % 64 ≡ 1 → NotDone rest last ⊎ C)
-      → NotDone (step4 limit rest) rs ⊎ C
+      → Through (heard4 busy) first mid → Came readData w mid last → length busy < T .limit → Clear busy → w % 64 ≡ 1 → NotDone rest last ⊎ C)
+      → NotDone (step4 T rest) rs ⊎ C
   unfolding step4 writeOf framed
-  step4-way limit rest rs go = bind-write keeps _ _ rs refl λ r c. polls-way limit rest r (go r c)
+  step4-way T rest rs go = bind-write keeps _ _ rs refl λ r c. polls-way (T .limit) rest r (go r c)
 
   cond-way : (test : Bool) (v : Verdict) (rest : Plan) (rs : List Reply) → (v ≡ Done → ⊥) → (test ≡ true → NotDone rest rs ⊎ C)
       → NotDone (cond test rest (done v)) rs ⊎ C
@@ -95,11 +96,11 @@ module _ {C : Type 0} where
   step5-way k rest rs go =
       bind-write keeps _ _ rs refl λ r c. bind keeps _ _ r λ w r2 c2. cond-way (banksRight k w) (Halted Banks) rest r2 (halted-not Banks) (go r c w r2 c2)
 
-  pub verify-way : (file : Summary) (restore left N : ℕ) (rs : List Reply) → ((last : List Reply) → Through (heard6 file restore left N) rs last → C)
-      → NotDone (verify file restore left N) rs ⊎ C
+  pub verify-way : (T : Terms) (file : Summary) (left N : ℕ) (rs : List Reply) → ((last : List Reply) → Through (heard6 T file left N) rs last → C)
+      → NotDone (verify T file left N) rs ⊎ C
   unfolding verify heard6 writeOf framed
-  verify-way file restore zero N rs go = inr (go rs here)
-  verify-way file restore (suc left) N rs go =
+  verify-way T file zero N rs go = inr (go rs here)
+  verify-way T file (suc left) N rs go =
       bind-write keeps _ _ rs refl λ r1 c1. bind-write keeps _ _ r1 refl λ r2 c2. bind keeps _ _ r2 λ crc r3 c3.
       cond-way (eqb crc (crcIn file N)) (Mismatch (configNumber N)) _ r3 (λ d. let z : _≡_ {A = ℕ} 0 1 = cc in omega arith) λ e.
-      verify-way file restore left (N + 1) r3 λ last t. go last (then c1 (then c2 (then (rw (eqb-true crc (crcIn file N) e) at c3) t)))
+      verify-way T file left (N + 1) r3 λ last t. go last (then c1 (then c2 (then (rw (eqb-true crc (crcIn file N) e) at c3) t)))

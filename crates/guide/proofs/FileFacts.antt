@@ -1,4 +1,4 @@
--- What the guide's theorems need of a text, as plain facts about its lines, and what follows at once. Assumes nothing.
+-- What the guide's theorems need of a text and what is said of it, as plain facts, and what follows at once. Assumes nothing.
 use mathlib.Core.Path.{_≡_, refl, _∙_}
 use mathlib.Core.List.{List, [], _∷_}
 use Prim.Native.Nat.{ℕ, _+_, _-_, _≤_, _<_}
@@ -7,16 +7,17 @@ use lib.ListN.{length, getD, drop, length-drop}
 use Rattle.cuts.specs.Lines.{linesOf}
 use Rattle.line.specs.Digits.{digitVal, valuesOf}
 use Rattle.line.specs.LineForm.{LineForm}
-use Rattle.image.specs.Says.{fileConfigs, summaryOf}
+use Rattle.summary.specs.declared.Summary.{Summary}
 use Rattle.image.specs.Meets.{BurnBytes}
-use Rattle.image.proofs.SpotPlaces.{configs-le}
 use Rattle.guide.specs.Guide.{linesAs, writeLinesOf}
 
 -- the bytes of the line with this number
 abbrev pub valuesAt : List ℕ → ℕ → List ℕ
 valuesAt text n = valuesOf digitVal (getD (linesOf text) (n - 1) [])
 
-pub record FileFacts (text : List ℕ) : Type 0 where
+pub record FileFacts (file : Summary) (text : List ℕ) : Type 0 where
+  pub lines : file .lines ≡ length (linesOf text)
+  pub few : file .configs ≤ 8
   pub many : 5 ≤ length (linesOf text)
   pub form : (n : ℕ) → 5 ≤ n → n ≤ length (linesOf text) → LineForm n (valuesAt text n)
   pub burnLast : BurnBytes (valuesAt text (length (linesOf text)))
@@ -31,14 +32,9 @@ pub write-lines-length : (text : List ℕ) → length (writeLinesOf text) ≡ le
 unfolding writeLinesOf
 write-lines-length text = lines-as-length (drop 4 (linesOf text)) ∙ length-drop 4 (linesOf text)
 
-module _ (text : List ℕ) (facts : FileFacts text) where
-  pub lines-are : summaryOf text .lines ≡ 4 + length (writeLinesOf text)
-  unfolding summaryOf
-  lines-are = omega (arith, facts .many, write-lines-length text)
+module _ {file : Summary} (text : List ℕ) (facts : FileFacts file text) where
+  pub lines-are : file .lines ≡ 4 + length (writeLinesOf text)
+  lines-are = omega (arith, facts .lines, facts .many, write-lines-length text)
 
   pub some-line : 1 ≤ length (writeLinesOf text)
   some-line = omega (arith, facts .many, write-lines-length text)
-
-pub few-configs : (text : List ℕ) → summaryOf text .configs ≤ 8
-unfolding summaryOf fileConfigs
-few-configs text = configs-le _ _

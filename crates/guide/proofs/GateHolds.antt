@@ -1,25 +1,24 @@
 -- The gate: no write line unless identity, revision, kind and places matched, and the first is next where they did. Assumes nothing.
 use mathlib.Core.Path.{_≡_, refl, ap, _∙_}
 use mathlib.Core.Logic.{_⊎_, inr, ⊎-swap}
-use mathlib.Core.Bool.{Bool}
 use mathlib.Core.List.{List, [], _∷_, _++_}
 use Prim.Native.Nat.{ℕ, _≤_}
 use native.Mathlib.Omega.{arith}
 use lib.ListN.{length}
 use Rattle.line.specs.declared.Line.{Line}
 use Rattle.summary.specs.declared.Summary.{Summary}
-use Rattle.image.specs.Says.{summaryOf}
 use Rattle.guide.specs.declared.Fit.{Fit}
-use Rattle.guide.specs.Plan.{Reply, other, Asked, Plan, requests}
-use Rattle.guide.specs.Guide.{gate, lines, guide, writeLinesOf, guideFor}
-use Rattle.guide.specs.Matched.{Matched}
-use Rattle.guide.specs.Statements.{isLine, linesIn, lineAsked, AllInForm, openingCount, Gate}
+use Rattle.guide.specs.Plan.{Reply, other, Asked, Plan, requests, bare}
+use Rattle.guide.specs.Guide.{gate, lines, guide, writeLinesOf, guideFor, targetOf}
+use Rattle.guide.specs.Matched.{opening, Matched, askedIn}
+use Rattle.guide.specs.Statements.{isLine, linesIn, lineAsked, AllInForm, Gate}
 use Rattle.guide.proofs.JudgedExactly.{judged-exactly}
-use Rattle.guide.proofs.Through.{through, asksOf, leads-requests, form-behind, form-before}
+use Rattle.guide.proofs.Through.{through, asksOf, asks-are, leads-requests, form-behind, form-before}
 use Rattle.guide.proofs.Ways.{Keeps}
 use Rattle.guide.proofs.Opening.{opening-way, opens}
 use Rattle.guide.proofs.Every.{behind}
 use Rattle.guide.proofs.FileFacts.{FileFacts, some-line}
+use Rattle.guide.specs.Terms.{Terms}
 
 abbrev Quiet : Plan → List Reply → Type 0
 Quiet p rs = linesIn (requests p rs) ≡ []
@@ -28,31 +27,31 @@ quiet-keeps : Keeps other Quiet
 unfolding requests linesIn isLine
 quiet-keeps = record { waits = λ q next. refl; back = λ q next r rs e. e; ends = λ v rs h. refl }
 
-module _ (file : Summary) (ls : List Line) (wanted : Bool) (limit restore : ℕ) (rs : List Reply) where
+module _ (T : Terms) (file : Summary) (ls : List Line) (rs : List Reply) where
   abbrev gated : Plan
-  gated = lines 5 ls (behind file limit restore)
+  gated = lines 5 ls (behind T file)
 
   abbrev out : List Asked
-  out = requests (guide file ls wanted limit restore) rs
+  out = requests (guide T file ls) rs
 
-  pub gate-unless : Matched file wanted rs ⊎ (linesIn out ≡ [])
+  pub gate-unless : Matched T (targetOf file) rs ⊎ (linesIn out ≡ [])
   unfolding guide
-  gate-unless = ⊎-swap (opening-way quiet-keeps file wanted gated rs λ m last t. inr m)
+  gate-unless = ⊎-swap (opening-way T file quiet-keeps gated rs λ m last t. inr m)
 
   -- where they matched, step 3 begins behind the opening
-  pub record Reached : Type 0 where
+  pub record Reached (m : Matched T (targetOf file) rs) : Type 0 where
     pub before : List Asked
     pub last : List Reply
     pub list : out ≡ before ++ requests gated last
-    pub size : length before ≡ openingCount wanted
+    pub asked : bare before ≡ askedIn (opening (T .wanted) (m .captured) (m .read))
     pub plain : linesIn before ≡ []
     pub form-here : (qs : List Asked) → AllInForm (before ++ qs) rs → AllInForm qs last
     pub form-there : (qs : List Asked) → AllInForm qs last → AllInForm (before ++ qs) rs
 
-  pub reached : Matched file wanted rs → Reached
+  pub reached : (m : Matched T (targetOf file) rs) → Reached m
   unfolding guide gate
   reached m =
-      let o = opens file gated wanted (m .captured) (m .counter) (m .identity) (m .flag) (m .revision) in
+      let o = opens T file gated (T .wanted) (m .captured) (m .read) in
       let s = through _ rs (m .came) in
       record {
         before = asksOf (o .leads);
@@ -60,33 +59,29 @@ module _ (file : Summary) (ls : List Line) (wanted : Bool) (limit restore : ℕ)
         list =
             leads-requests (o .leads) (s .1)
             ∙ ap (λ (x : Fit). asksOf (o .leads) ++ requests (gate x gated) (s .0))
-            (judged-exactly file (m .counter) (m .identity) (m .flag) (m .revision) .passes (m .fits));
-        size = o .size;
+            (judged-exactly (targetOf file) (T .kept) (m .read) .passes (m .fits));
+        asked = asks-are (o .leads);
         plain = o .plain;
         form-here = λ qs f. form-behind (o .leads) (s .1) f;
         form-there = λ qs f. form-before (o .leads) (s .1) f;
       }
 
   first-line : (some : List Line) (last : List Reply) → 1 ≤ length some
-      → (l : Line) × (more : List Line) × (rest : List Asked) × (some ≡ l ∷ more) × (requests (lines 5 some (behind file limit restore)) last ≡ lineAsked 5 l ∷ rest)
+      → (l : Line) × (more : List Line) × (rest : List Asked) × (some ≡ l ∷ more) × (requests (lines 5 some (behind T file)) last ≡ lineAsked 5 l ∷ rest)
   unfolding lines requests
   first-line [] last h = absurd (let y : ⊥ = omega arith in y)
   first-line (l ∷ more) [] h = (l, more, [], refl, refl)
   first-line (l ∷ more) (r ∷ last) h = (l, more, _, refl, refl)
 
-  pub gate-next : 1 ≤ length ls → Matched file wanted rs
+  pub gate-next : 1 ≤ length ls → (m : Matched T (targetOf file) rs)
       → (before : List Asked) × (l : Line) × (more : List Line) × (rest : List Asked)
-      × (ls ≡ l ∷ more) × (out ≡ before ++ (lineAsked 5 l ∷ rest)) × (length before ≡ openingCount wanted)
+      × (ls ≡ l ∷ more) × (out ≡ before ++ (lineAsked 5 l ∷ rest)) × (bare before ≡ askedIn (opening (T .wanted) (m .captured) (m .read)))
   gate-next h m =
       let x = reached m in
       let y = first-line ls (x .last) h in
-      (x .before, y .0, y .1, y .2, y .3, x .list ∙ ap (λ (l : List Asked). x .before ++ l) (y .4), x .size)
+      (x .before, y .0, y .1, y .2, y .3, x .list ∙ ap (λ (l : List Asked). x .before ++ l) (y .4), x .asked)
 
-module _ (text : List ℕ) (facts : FileFacts text) (wanted : Bool) (limit restore : ℕ) (rs : List Reply) where
-  pub gate-holds : Gate text wanted limit restore rs
-  unfolding guideFor
-  gate-holds =
-      record {
-        unless = gate-unless (summaryOf text) (writeLinesOf text) wanted limit restore rs;
-        next = gate-next (summaryOf text) (writeLinesOf text) wanted limit restore rs (some-line text facts);
-      }
+pub gate-holds : (T : Terms) (file : Summary) (text : List ℕ) → FileFacts file text → (rs : List Reply) → Gate T file text rs
+unfolding guideFor
+gate-holds T file text facts rs =
+    record { unless = gate-unless T file (writeLinesOf text) rs; next = gate-next T file (writeLinesOf text) rs (some-line text facts) }

@@ -11,13 +11,14 @@ use Rattle.counts.specs.declared.Kind.the-variants.{Legacy, Production}
 use Rattle.counts.specs.declared.KindFound.{KindFound}
 use Rattle.counts.specs.declared.KindFound.the-variants.{Is, Unknown}
 use Rattle.promise.proofs.Basics.{split}
-use Rattle.summary.specs.declared.Summary.{Summary}
 use Rattle.guide.specs.declared.Reason.{Reason}
 use Rattle.guide.specs.declared.Reason.the-variants.{Counter, Identity, Flag, Old, OtherKind, Places}
 use Rattle.guide.specs.declared.Fit.the-variants.{Matched, Fails}
 use Rattle.guide.specs.Judged.{kindWanted, sameKind, fitKind, fitOf}
 use Rattle.guide.specs.Matched.{Fits}
 use Rattle.guide.specs.Statements.{JudgedExactly}
+use Rattle.guide.specs.declared.Words.{Words}
+use Rattle.guide.specs.declared.Target.{Target}
 
 -- the kind that counter and flag want, as a relation
 abbrev Wants : Kind → ℕ → ℕ → Type 0
@@ -64,47 +65,46 @@ kind-same Legacy Production e = absurd (false≢true e)
 kind-same Production Legacy e = absurd (false≢true e)
 kind-same Production Production e = refl
 
-module _ (file : Summary) (counter identity flag revision : ℕ) where
-  passing : Fits file counter identity flag revision → fitOf (file .kind) (file .identity) (file .configs) 0 counter identity flag revision ≡ Matched
+module _ (target : Target) (kept : ℕ) (read : Words) where
+  passing : Fits target kept read → fitOf target kept read ≡ Matched
   unfolding fitOf fitKind
   passing f =
       simp (
-        le-ltb 28 counter (f .counted),
-        eq-eqb identity (file .identity) (f .same),
-        wants-is counter flag (f .kind),
-        le-ltb (revision / 16777216) 6 (f .young),
-        same-kind (file .kind),
-        le-ltb counter (file .configs + 0) (omega (arith, f .places)),
+        le-ltb 28 (read .counter) (f .counted),
+        eq-eqb (read .identity) (target .identity) (f .same),
+        wants-is (read .counter) (read .flag) (f .kind),
+        le-ltb (read .revision / 16777216) 6 (f .young),
+        same-kind (target .kind),
+        le-ltb (read .counter) (target .configs + kept) (f .places),
       )
 
   abbrev Known : KindFound → Type 0
-  Known x = (6 ≤ revision / 16777216) × (x ≡ Is (file .kind)) × (file .configs ≤ counter)
+  Known x = (6 ≤ read .revision / 16777216) × (x ≡ Is (target .kind)) × (target .configs + kept ≤ read .counter)
 
-  kind-known : (x : KindFound) → fitKind (file .kind) (file .configs) 0 counter revision x ≡ Matched → Known x
+  kind-known : (x : KindFound) → fitKind target kept read x ≡ Matched → Known x
   unfolding fitKind
   kind-known Unknown e = fails Flag e
   kind-known (Is wanted) e =
-      split (ltb (revision / 16777216) 6) (λ a. fails Old (simp a at e))
-      (λ a. split (sameKind (file .kind) wanted)
-      (λ b. split (ltb counter (file .configs + 0)) (λ c. fails Places (simp (a, b, c) at e))
-      (λ c. let h = ltb-false counter (file .configs + 0) c in
-      (ltb-false (revision / 16777216) 6 a, ap Is (kind-same (file .kind) wanted b), omega arith)))
+      split (ltb (read .revision / 16777216) 6) (λ a. fails Old (simp a at e))
+      (λ a. split (sameKind (target .kind) wanted)
+      (λ b. split (ltb (read .counter) (target .configs + kept)) (λ c. fails Places (simp (a, b, c) at e))
+      (λ c. (ltb-false (read .revision / 16777216) 6 a, ap Is (kind-same (target .kind) wanted b), ltb-false (read .counter) (target .configs + kept) c)))
       (λ b. fails OtherKind (simp (a, b) at e)))
 
-  matching : fitOf (file .kind) (file .identity) (file .configs) 0 counter identity flag revision ≡ Matched → Fits file counter identity flag revision
+  matching : fitOf target kept read ≡ Matched → Fits target kept read
   unfolding fitOf
   matching e =
-      split (ltb 28 counter) (λ a. fails Counter (simp a at e))
-      (λ a. split (eqb identity (file .identity))
-      (λ b. let k = kind-known (kindWanted counter flag) (simp (a, b) at e) in
+      split (ltb 28 (read .counter)) (λ a. fails Counter (simp a at e))
+      (λ a. split (eqb (read .identity) (target .identity))
+      (λ b. let k = kind-known (kindWanted (read .counter) (read .flag)) (simp (a, b) at e) in
       record {
-        counted = ltb-false 28 counter a;
-        same = eqb-true identity (file .identity) b;
+        counted = ltb-false 28 (read .counter) a;
+        same = eqb-true (read .identity) (target .identity) b;
         young = k .0;
-        kind = is-wants (file .kind) counter flag (k .1);
+        kind = is-wants (target .kind) (read .counter) (read .flag) (k .1);
         places = k .2;
       })
       (λ b. fails Identity (simp (a, b) at e)))
 
-  pub judged-exactly : JudgedExactly file counter identity flag revision
+  pub judged-exactly : JudgedExactly target kept read
   judged-exactly = record { passes = passing; matches = matching }

@@ -20,6 +20,7 @@ use Rattle.guide.specs.Matched.{Exchange, wrote, got}
 use Rattle.guide.specs.Statements.{heard3, heard4, heard6}
 use Rattle.guide.proofs.Through.{Leads, arrived, on}
 use Rattle.guide.proofs.Statuses.{Clear, busy-is, passed-is}
+use Rattle.guide.specs.Terms.{Terms}
 
 module _ {p rest : Plan} {ys : List Exchange} (k : Leads rest ys p) where
   pub lines-leads : (i : ℕ) (ls : List Line) → Leads (lines i ls rest) (heard3 ls ++ ys) p
@@ -39,20 +40,20 @@ module _ {p rest : Plan} {ys : List Exchange} (k : Leads rest ys p) where
       = rw (busy-is b (f 0 (omega arith))) (polls-leads left busy w (omega arith) (λ i g. f (suc i) (omega arith)) e) in
       on _ l
 
-  pub step4-leads : (limit : ℕ) (busy : List ℕ) (w : ℕ) → length busy < limit → Clear busy → w % 64 ≡ 1
-      → Leads (step4 limit rest) (wrote (pointTo 0x7E 0x00) ∷ (heard4 busy ++ (got readData w ∷ ys))) p
+  pub step4-leads : (T : Terms) (busy : List ℕ) (w : ℕ) → length busy < T .limit → Clear busy → w % 64 ≡ 1
+      → Leads (step4 T rest) (wrote (pointTo 0x7E 0x00) ∷ (heard4 busy ++ (got readData w ∷ ys))) p
   unfolding step4
-  step4-leads limit busy w h f e = on _ (polls-leads limit busy w h f e)
+  step4-leads T busy w h f e = on _ (polls-leads (T .limit) busy w h f e)
 
   pub step5-leads : (k banks : ℕ) → banksRight k banks ≡ true → Leads (step5 k rest) (wrote (pointTo 0x7F 0x00) ∷ got readData banks ∷ ys) p
   unfolding step5
   step5-leads n banks e = let l : Leads (cond (banksRight n banks) rest (done (Halted Banks))) ys p = rw e k in on _ (on _ l)
 
-pub verify-leads : (file : Summary) (restore left N : ℕ) → Leads (verify file restore left N) (heard6 file restore left N) (done Done)
+pub verify-leads : (T : Terms) (file : Summary) (left N : ℕ) → Leads (verify T file left N) (heard6 T file left N) (done Done)
 unfolding verify heard6
-verify-leads file restore zero N = arrived
-verify-leads file restore (suc left) N =
-    let more = verify file restore left (N + 1) in
-    let l : Leads (cond (eqb (crcIn file N) (crcIn file N)) more (done (Mismatch (configNumber N)))) (heard6 file restore left (N + 1)) (done Done)
-    = rw (eq-eqb (crcIn file N) (crcIn file N) refl) (verify-leads file restore left (N + 1)) in
+verify-leads T file zero N = arrived
+verify-leads T file (suc left) N =
+    let more = verify T file left (N + 1) in
+    let l : Leads (cond (eqb (crcIn file N) (crcIn file N)) more (done (Mismatch (configNumber N)))) (heard6 T file left (N + 1)) (done Done)
+    = rw (eq-eqb (crcIn file N) (crcIn file N) refl) (verify-leads T file left (N + 1)) in
     on _ (on _ (on _ l))

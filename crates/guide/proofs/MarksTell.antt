@@ -1,7 +1,7 @@
 -- A request marked as a write line has that line's bytes; and the burn's bytes are put out exactly as often as the burn is, where
 -- RESTORE_CFG is none of the other commands. Assumes nothing.
 use mathlib.Core.Path.{_≡_, refl, sym, ap, _∙_}
-use mathlib.Core.Bool.{Bool, false, true≢false}
+use mathlib.Core.Bool.{false, true≢false}
 use mathlib.Core.List.{List, [], _∷_}
 use Prim.Native.Nat.{ℕ, _+_, _-_, _≤_, _<_}
 use native.Mathlib.Omega.{arith}
@@ -14,7 +14,6 @@ use Rattle.line.specs.Digits.{digitVal, valuesOf}
 use Rattle.line.specs.Reading.{lineOf}
 use Rattle.promise.proofs.Basics.{split}
 use Rattle.summary.specs.declared.Summary.{Summary}
-use Rattle.image.specs.Says.{summaryOf}
 use Rattle.image.specs.Meets.{BurnBytes}
 use Rattle.bus.specs.declared.Request.{Request}
 use Rattle.bus.specs.Bus.{eight, framed, writeOf, readOf, reserved}
@@ -25,6 +24,7 @@ use Rattle.guide.proofs.Through.{asked}
 use Rattle.guide.proofs.Every.{Every, asks, ends, every-request, Other, point, word, identity, revision, set, command, load, guide-every}
 use Rattle.guide.proofs.LineBytes.{Spelt, line-spelt}
 use Rattle.guide.proofs.FileFacts.{FileFacts, valuesAt}
+use Rattle.guide.specs.Terms.{Terms}
 
 -- ---- the burn's bytes, request by request
 
@@ -32,7 +32,7 @@ use Rattle.guide.proofs.FileFacts.{FileFacts, valuesAt}
 abbrev Agrees : ℕ → Asked → Type 0
 Agrees n q = sameBytes (q .request .bytes) (eight burnBytes) ≡ isBurnMark n (q .mark)
 
-agree : (n : ℕ) {p : Plan} → Every (Agrees n) p → (rs : List Reply) → spellings (requests p rs) ≡ burnsIn n (requests p rs)
+agree : (n : ℕ) {most : ℕ} {p : Plan} → Every (Agrees n) most p → (rs : List Reply) → spellings (requests p rs) ≡ burnsIn n (requests p rs)
 unfolding requests spellings burnsIn
 agree n (asks e f) [] = rw e
 agree n (asks e f) (r ∷ rs) = rw (e, agree n (f r) rs)
@@ -42,24 +42,24 @@ not-burn : (restore : ℕ) → reserved restore ≡ false → eqb restore 0xE7 �
 unfolding reserved
 not-burn restore e = split (eqb restore 0xE7) (λ f. absurd (true≢false (rw (eqb-true restore 0xE7 f) at e))) (λ f. f)
 
-others-agree : (n : ℕ) (file : Summary) (restore : ℕ) → reserved restore ≡ false → (q : Request) → Other file restore q → Agrees n (asked other q)
+others-agree : (n : ℕ) (T : Terms) (file : Summary) → reserved (T .restore) ≡ false → (q : Request) → Other T file q → Agrees n (asked other q)
 unfolding sameBytes isBurnMark eight writeOf framed readOf
-others-agree n file restore e _ (point low high) = refl
-others-agree n file restore e _ word = refl
-others-agree n file restore e _ identity = refl
-others-agree n file restore e _ revision = refl
-others-agree n file restore e _ (set w) = refl
-others-agree n file restore e _ command = refl
-others-agree n file restore e _ (load N) = rw (not-burn restore e)
+others-agree n T file e _ (point low high) = refl
+others-agree n T file e _ word = refl
+others-agree n T file e _ identity = refl
+others-agree n T file e _ revision = refl
+others-agree n T file e _ (set w) = refl
+others-agree n T file e _ command = refl
+others-agree n T file e _ (load N) = rw (not-burn (T .restore) e)
 
 -- ---- of a text
 
-module _ (text : List ℕ) (facts : FileFacts text) where
+module _ (T : Terms) (file : Summary) (text : List ℕ) (facts : FileFacts file text) (rs : List Reply) where
   abbrev written : List (List ℕ)
   written = drop 4 (linesOf text)
 
   abbrev n : ℕ
-  n = length (linesOf text)
+  n = file .lines
 
   -- write line j, counted from 0, is line 5 + j
   values-at : (j : ℕ) → valuesOf digitVal (getD written j []) ≡ valuesAt text (5 + j)
@@ -68,10 +68,10 @@ module _ (text : List ℕ) (facts : FileFacts text) where
       rw (e, getD-drop 4 (linesOf text) j [])
 
   inside : (j : ℕ) → j < length written → 5 + j ≤ n
-  inside j h = omega (arith, length-drop 4 (linesOf text), facts .many)
+  inside j h = omega (arith, length-drop 4 (linesOf text), facts .many, facts .lines)
 
   spelt : (j : ℕ) → j < length written → Spelt (valuesOf digitVal (getD written j []))
-  spelt j h = rw (values-at j) (line-spelt (5 + j) (valuesAt text (5 + j)) (omega arith) (facts .form (5 + j) (omega arith) (inside j h)))
+  spelt j h = rw (values-at j) (line-spelt (5 + j) (valuesAt text (5 + j)) (omega arith) (facts .form (5 + j) (omega arith) (omega (arith, inside j h, facts .lines))))
 
   line-agrees : (j : ℕ) → j < length written → Agrees n (lineAsked (5 + j) (lineOf (valuesOf digitVal (getD written j []))))
   unfolding isBurnMark
@@ -80,31 +80,30 @@ module _ (text : List ℕ) (facts : FileFacts text) where
       let v = valuesOf digitVal (getD written j []) in
       ap (λ (bs : List ℕ). sameBytes bs (eight burnBytes)) (s .own)
       ∙ split (eqb (5 + j) n)
-      (λ e. let f : 5 + j ≡ n = eqb-true (5 + j) n e in
+      (λ e. let f : 5 + j ≡ length (linesOf text) = eqb-true (5 + j) n e ∙ facts .lines in
       let b : BurnBytes v = rw (values-at j, f) (facts .burnLast) in
       s .burn b ∙ sym e)
       (λ e. split (sameBytes (eight (drop 2 v)) (eight burnBytes))
-      (λ g. absurd (facts .burnOnce (5 + j) (omega arith) (omega (arith, inside j h, eqb-false (5 + j) n e)) (rw (values-at j) at (s .only g))))
+      (λ g. absurd (facts .burnOnce (5 + j) (omega arith) (omega (arith, inside j h, facts .lines, eqb-false (5 + j) n e)) (rw (values-at j) at (s .only g))))
       (λ g. g ∙ sym e))
 
-  module _ (wanted : Bool) (limit restore : ℕ) (rs : List Reply) where
-    pub spelled-once : reserved restore ≡ false → SpelledOnce text wanted limit restore rs
-    unfolding SpelledOnce guideFor writeLinesOf summaryOf
-    spelled-once e = agree n (guide-every (summaryOf text) restore (others-agree n (summaryOf text) restore e) written wanted limit line-agrees) rs
+  pub spelled-once : reserved (T .restore) ≡ false → SpelledOnce T file text rs
+  unfolding SpelledOnce guideFor writeLinesOf
+  spelled-once e = agree n (guide-every T file (others-agree n T file e) written line-agrees) rs
 
-    abbrev Tells : Asked → Type 0
-    Tells q = (i : ℕ) → q .mark ≡ fileLine i → (5 ≤ i) × (i ≤ n) × (q .request .bytes ≡ eight (drop 2 (valuesAt text i)))
+  abbrev Tells : Asked → Type 0
+  Tells q = (i : ℕ) → q .mark ≡ fileLine i → (5 ≤ i) × (i ≤ file .lines) × (q .request .bytes ≡ eight (drop 2 (valuesAt text i)))
 
-    line-tells : (j : ℕ) → j < length written → Tells (lineAsked (5 + j) (lineOf (valuesOf digitVal (getD written j []))))
-    line-tells j h i e =
-        let f : 5 + j ≡ i = cc in
-        (omega arith, omega (arith, inside j h), spelt j h .own ∙ rw (values-at j, f))
+  line-tells : (j : ℕ) → j < length written → Tells (lineAsked (5 + j) (lineOf (valuesOf digitVal (getD written j []))))
+  line-tells j h i e =
+      let f : 5 + j ≡ i = cc in
+      (omega arith, omega (arith, inside j h), spelt j h .own ∙ rw (values-at j, f))
 
-    other-tells : (q : Request) → Other (summaryOf text) restore q → Tells (asked other q)
-    other-tells q o i e = let z : _≡_ {A = ℕ} 0 1 = cc in absurd (let y : ⊥ = omega arith in y)
+  other-tells : (q : Request) → Other T file q → Tells (asked other q)
+  other-tells q o i e = let z : _≡_ {A = ℕ} 0 1 = cc in absurd (let y : ⊥ = omega arith in y)
 
-    pub marks-tell : MarksTell text wanted limit restore rs
-    unfolding guideFor writeLinesOf summaryOf
-    marks-tell =
-        let every = guide-every {P = Tells} (summaryOf text) restore other-tells written wanted limit line-tells in
-        record { tells = λ q i m e. every-request {P = Tells} every rs q m i e }
+  pub marks-tell : MarksTell T file text rs
+  unfolding guideFor writeLinesOf
+  marks-tell =
+      let every = guide-every {P = Tells} T file other-tells written line-tells in
+      record { tells = λ q i m e. every-request {P = Tells} every rs q m i e }

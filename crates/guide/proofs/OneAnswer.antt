@@ -2,22 +2,26 @@
 -- of these to the source. Assumes nothing.
 use mathlib.Core.Path.{_≡_}
 use Prim.Native.Nat.{ℕ}
-use Rattle.counts.specs.declared.Kind.{Kind}
 use Rattle.line.specs.declared.Line.{Line}
 use Rattle.guide.specs.declared.Reason.{Reason}
 use Rattle.guide.specs.declared.Verdict.{Verdict}
 use Rattle.guide.specs.Numbers.{reasonNumber, verdictTold}
 use Rattle.guide.specs.Judged.{banksRight, cleared, fitOf, kindWanted, polledOf}
-use Rattle.guide.specs.Guide.{lineRequest}
+use Rattle.guide.specs.Guide.{lineRequest, targetOf}
 use Rattle.promise.specs.One.{One}
 use Rattle.promise.proofs.Equal.{one-answer}
+use Rattle.guide.specs.declared.Words.{Words}
+use Rattle.guide.specs.declared.Target.{Target}
+use Rattle.summary.specs.declared.Summary.{Summary}
 
 pub one-kind-wanted : (counter flag : ℕ) → One (λ r. r ≡ kindWanted counter flag)
 one-kind-wanted counter flag = one-answer _
 
-pub one-Fit-of : (kind : Kind) (expected configs kept counter identity flag revision : ℕ)
-    → One (λ r. r ≡ fitOf kind expected configs kept counter identity flag revision)
-one-Fit-of kind expected configs kept counter identity flag revision = one-answer _
+pub one-Target-of : (file : Summary) → One (λ r. r ≡ targetOf file)
+one-Target-of file = one-answer _
+
+pub one-Fit-of : (target : Target) (kept : ℕ) (read : Words) → One (λ r. r ≡ fitOf target kept read)
+one-Fit-of target kept read = one-answer _
 
 pub one-Polled-of : (status : ℕ) → One (λ r. r ≡ polledOf status)
 one-Polled-of status = one-answer _

@@ -7,9 +7,9 @@ use Rattle.bus.specs.declared.Request.{Request}
 use Rattle.bus.specs.declared.ReplyForm.{ReplyForm}
 use Rattle.bus.specs.declared.ReplyForm.the-variants.{Good}
 use Rattle.bus.specs.ReplyForm.{formOf}
-use Rattle.guide.specs.Plan.{Reply, Mark, Asked, Plan, requests, verdict}
+use Rattle.guide.specs.Plan.{Reply, Mark, Asked, Plan, requests, verdict, bare}
 use Rattle.guide.specs.Guide.{hear, put}
-use Rattle.guide.specs.Matched.{Exchange, got, Heard, none, more}
+use Rattle.guide.specs.Matched.{Exchange, got, Heard, none, more, askedIn}
 use Rattle.guide.specs.Statements.{AllInForm}
 use Rattle.guide.specs.Statements as said
 
@@ -58,6 +58,11 @@ pub data Leads : Plan → List Exchange → Plan → Type 0 where
 unfoldable pub asksOf : {p p′ : Plan} {xs : List Exchange} → Leads p xs p′ → List Asked
 asksOf arrived = []
 asksOf (on {m} {q} next l) = asked m q ∷ asksOf l
+
+pub asks-are : {p p′ : Plan} {xs : List Exchange} (l : Leads p xs p′) → bare (asksOf l) ≡ askedIn xs
+unfolding bare asksOf askedIn
+asks-are arrived = refl
+asks-are (on {m} {q} next l) = ap (λ (qs : List Request). q ∷ qs) (asks-are l)
 
 pub both : {p p′ p″ : Plan} {xs ys : List Exchange} → Leads p xs p′ → Leads p′ ys p″ → Leads p (xs ++ ys) p″
 both arrived k = k

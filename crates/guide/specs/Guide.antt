@@ -1,7 +1,7 @@
 -- The guide: the requests and what each reply leads to, steps 1 to 6 of document 01 ("The session") in its order, each before
 -- the steps that follow it. From the file, the settings and the replies alone. Assumes nothing.
 use mathlib.Core.List.{List, [], _∷_}
-use mathlib.Core.Bool.{Bool, cond}
+use mathlib.Core.Bool.{cond}
 use Prim.Native.Nat.{ℕ, zero, suc, _+_}
 use lib.Dec.{eqb}
 use lib.ListN.{getD, take, drop}
@@ -11,7 +11,6 @@ use Rattle.cuts.specs.Lines.{linesOf}
 use Rattle.line.specs.Digits.{digitVal, valuesOf}
 use Rattle.line.specs.Reading.{lineOf}
 use Rattle.summary.specs.declared.Summary.{Summary}
-use Rattle.image.specs.Says.{summaryOf}
 use Rattle.bus.specs.declared.Request.{Request}
 use Rattle.bus.specs.declared.ReplyForm.{ReplyForm}
 use Rattle.bus.specs.declared.ReplyForm.the-variants.{Unanswered, Misshapen, Miscoded, Good}
@@ -19,10 +18,12 @@ use Rattle.bus.specs.Bus.{framed, writeOf, wordBytes, pointTo, readData, readBl
 use Rattle.bus.specs.ReplyForm.{formOf}
 use Rattle.guide.specs.declared.Reason.the-variants.{Nack, Shape, Pec, Program, Banks}
 use Rattle.guide.specs.declared.Verdict.the-variants.{Done, Mismatch, Halted}
+use Rattle.guide.specs.declared.Target.{Target}
 use Rattle.guide.specs.declared.Fit.{Fit}
 use Rattle.guide.specs.declared.Fit.the-variants.{Matched, Fails}
 use Rattle.guide.specs.declared.Polled.{Polled}
 use Rattle.guide.specs.declared.Polled.the-variants.{Busy, Passed, Failed}
+use Rattle.guide.specs.Terms.{Terms}
 use Rattle.guide.specs.Plan.{Mark, other, fileLine, Plan, ask, done}
 use Rattle.guide.specs.Judged.{cleared, fitOf, polledOf, banksRight}
 
@@ -52,13 +53,17 @@ unfoldable pub gate : Fit → Plan → Plan
 gate Matched rest = rest
 gate (Fails r) rest = done (Halted r)
 
-unfoldable pub step2 : Summary → Plan → Plan
-step2 file rest =
+-- the words are judged when all four are read
+abbrev pub targetOf : Summary → Target
+targetOf file = record { kind = file .kind; identity = file .identity; configs = file .configs }
+
+unfoldable pub step2 : Terms → Summary → Plan → Plan
+step2 T file rest =
     write (pointTo 0x35 0x00) (read readData λ counter.
     read (readBlock 0xAD) λ identity.
     write (pointTo 0x87 0xBD) (read readData λ flag.
     read (readBlock 0xAE) λ revision.
-    gate (fitOf (file .kind) (file .identity) (file .configs) 0 counter identity flag revision) rest))
+    gate (fitOf (targetOf file) (T .kept) (record { counter = counter; identity = identity; flag = flag; revision = revision })) rest))
 
 -- the data bytes that a line has
 unfoldable pub lineData : Line → List ℕ
@@ -86,8 +91,8 @@ unfoldable pub polls : ℕ → Plan → Plan
 polls zero rest = done (Halted Program)
 polls (suc left) rest = read readData λ status. polled (polledOf status) (polls left rest) rest
 
-unfoldable pub step4 : ℕ → Plan → Plan
-step4 limit rest = write (pointTo 0x7E 0x00) (polls limit rest)
+unfoldable pub step4 : Terms → Plan → Plan
+step4 T rest = write (pointTo 0x7E 0x00) (polls (T .limit) rest)
 
 -- step 5: write C7 7F 00; read C5: banks
 unfoldable pub step5 : ℕ → Plan → Plan
@@ -100,20 +105,20 @@ idIn file N = getD (file .ids) N (configId 0) .0
 unfoldable pub crcIn : Summary → ℕ → ℕ
 crcIn file N = getD (file .crcs) N 0
 
-unfoldable pub verify : Summary → ℕ → ℕ → ℕ → Plan
-verify file restore zero N = done Done
-verify file restore (suc left) N =
-    write (writeOf restore (idIn file N ∷ [])) (write (pointTo 0x94 0x00) (read readData λ crc.
-    cond (eqb crc (crcIn file N)) (verify file restore left (N + 1)) (done (Mismatch (configNumber N)))))
+unfoldable pub verify : Terms → Summary → ℕ → ℕ → Plan
+verify T file zero N = done Done
+verify T file (suc left) N =
+    write (writeOf (T .restore) (idIn file N ∷ [])) (write (pointTo 0x94 0x00) (read readData λ crc.
+    cond (eqb crc (crcIn file N)) (verify T file left (N + 1)) (done (Mismatch (configNumber N)))))
 
-abbrev pub step6 : Summary → ℕ → Plan
-step6 file restore = verify file restore (file .configs) 0
+abbrev pub step6 : Terms → Summary → Plan
+step6 T file = verify T file (file .configs) 0
 
--- the whole, from what a file says, its write lines, and the settings: whether step 1 is wanted, the poll limit, RESTORE_CFG
-unfoldable pub guide : Summary → List Line → Bool → ℕ → ℕ → Plan
-guide file ls wanted limit restore =
-    let rest = step2 file (step3 ls (step4 limit (step5 (file .configs) (step6 file restore)))) in
-    cond wanted (step1 rest) rest
+-- the whole, from the terms, what a file says, and its write lines
+unfoldable pub guide : Terms → Summary → List Line → Plan
+guide T file ls =
+    let rest = step2 T file (step3 ls (step4 T (step5 (file .configs) (step6 T file)))) in
+    cond (T .wanted) (step1 rest) rest
 
 -- ---- of a text
 
@@ -125,5 +130,6 @@ linesAs (t ∷ ts) = lineOf (valuesOf digitVal t) ∷ linesAs ts
 unfoldable pub writeLinesOf : List ℕ → List Line
 writeLinesOf text = linesAs (drop 4 (linesOf text))
 
-unfoldable pub guideFor : List ℕ → Bool → ℕ → ℕ → Plan
-guideFor text wanted limit restore = guide (summaryOf text) (writeLinesOf text) wanted limit restore
+-- of a file that says this
+unfoldable pub guideFor : Terms → Summary → List ℕ → Plan
+guideFor T file text = guide T file (writeLinesOf text)

@@ -9,6 +9,8 @@ use Rattle.counts.specs.declared.KindFound.{KindFound}
 use Rattle.counts.specs.declared.KindFound.the-variants.{Is, Unknown}
 use Rattle.counts.specs.Counts.{configNumber, bankOf}
 use Rattle.guide.specs.declared.Reason.the-variants.{Counter, Identity, Flag, Old, OtherKind, Places}
+use Rattle.guide.specs.declared.Target.{Target}
+use Rattle.guide.specs.declared.Words.{Words}
 use Rattle.guide.specs.declared.Fit.{Fit}
 use Rattle.guide.specs.declared.Fit.the-variants.{Matched, Fails}
 use Rattle.guide.specs.declared.Polled.{Polled}
@@ -32,20 +34,20 @@ sameKind Legacy Production = false
 sameKind Production Legacy = false
 sameKind Production Production = true
 
--- of a file of this kind, with k configurations, where so many places are kept free
-module _ (kind : Kind) (k kept counter revision : ℕ) where
+-- what a file asks of its device, where so many places are kept free, and what was read
+module _ (target : Target) (kept : ℕ) (read : Words) where
   -- OLD, KIND, PLACES
   unfoldable pub fitKind : KindFound → Fit
   fitKind Unknown = Fails Flag
   fitKind (Is wanted) =
-      cond (ltb (revision / 16777216) 6) (Fails Old)
-      (cond (sameKind kind wanted) (cond (ltb counter (k + kept)) (Fails Places) Matched) (Fails OtherKind))
+      cond (ltb (read .revision / 16777216) 6) (Fails Old)
+      (cond (sameKind (target .kind) wanted) (cond (ltb (read .counter) (target .configs + kept)) (Fails Places) Matched) (Fails OtherKind))
 
--- COUNTER, IDENTITY, FLAG, OLD, KIND, PLACES, in this order, or none of them
-unfoldable pub fitOf : Kind → ℕ → ℕ → ℕ → ℕ → ℕ → ℕ → ℕ → Fit
-fitOf kind fileIdentity k kept counter identity flag revision =
-    cond (ltb 28 counter) (Fails Counter)
-    (cond (eqb identity fileIdentity) (fitKind kind k kept counter revision (kindWanted counter flag)) (Fails Identity))
+  -- COUNTER, IDENTITY, FLAG, OLD, KIND, PLACES, in this order, or none of them
+  unfoldable pub fitOf : Fit
+  fitOf =
+      cond (ltb 28 (read .counter)) (Fails Counter)
+      (cond (eqb (read .identity) (target .identity)) (fitKind (kindWanted (read .counter) (read .flag))) (Fails Identity))
 
 -- ---- step 4: bit 0, and then bits 5..0 are to be 000001
 unfoldable pub polledOf : ℕ → Polled

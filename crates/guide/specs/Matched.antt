@@ -4,13 +4,15 @@ use mathlib.Core.Path.{_≡_}
 use mathlib.Core.Logic.{_⊎_}
 use mathlib.Core.Bool.{Bool, true, false}
 use mathlib.Core.List.{List, [], _∷_, _++_}
-use Prim.Native.Nat.{ℕ, _/_, _≤_, _<_}
+use Prim.Native.Nat.{ℕ, _+_, _/_, _≤_, _<_}
 use Rattle.counts.specs.declared.Kind.the-variants.{Legacy, Production}
-use Rattle.summary.specs.declared.Summary.{Summary}
 use Rattle.bus.specs.declared.Request.{Request}
 use Rattle.bus.specs.declared.ReplyForm.the-variants.{Good}
 use Rattle.bus.specs.Bus.{writeOf, wordBytes, pointTo, readData, readBlock}
 use Rattle.bus.specs.ReplyForm.{formOf}
+use Rattle.guide.specs.declared.Target.{Target}
+use Rattle.guide.specs.declared.Words.{Words}
+use Rattle.guide.specs.Terms.{Terms}
 use Rattle.guide.specs.Plan.{Reply}
 use Rattle.guide.specs.Judged.{cleared}
 
@@ -33,38 +35,42 @@ pub data Heard : List Exchange → List Reply → Type 0 where
   more : (x : Exchange) (xs : List Exchange) (r : Reply) (rs : List Reply) → formOf (x .request) (r .kind) (r .bytes) ≡ Good (x .word) → Heard xs rs
       → Heard (x ∷ xs) (r ∷ rs)
 
+-- what was asked, word for word
+unfoldable pub askedIn : List Exchange → List Request
+askedIn [] = []
+askedIn (x ∷ xs) = x .request ∷ askedIn xs
+
 -- ---- steps 1 and 2
 
 abbrev pub heard1 : ℕ → List Exchange
 heard1 w =
     wrote (pointTo 0xA2 0x00) ∷ got readData w ∷ wrote (writeOf 0xC5 (wordBytes (cleared w))) ∷ wrote (writeOf 0xE7 (0x02 ∷ 0x00 ∷ [])) ∷ []
 
-abbrev pub heard2 : ℕ → ℕ → ℕ → ℕ → List Exchange
-heard2 counter identity flag revision =
-    wrote (pointTo 0x35 0x00) ∷ got readData counter ∷ got (readBlock 0xAD) identity ∷ wrote (pointTo 0x87 0xBD) ∷ got readData flag
-    ∷ got (readBlock 0xAE) revision ∷ []
+abbrev pub heard2 : Words → List Exchange
+heard2 read =
+    wrote (pointTo 0x35 0x00) ∷ got readData (read .counter) ∷ got (readBlock 0xAD) (read .identity) ∷ wrote (pointTo 0x87 0xBD)
+    ∷ got readData (read .flag) ∷ got (readBlock 0xAE) (read .revision) ∷ []
 
 -- step 1 if wanted, then step 2
-unfoldable pub opening : Bool → ℕ → ℕ → ℕ → ℕ → ℕ → List Exchange
-opening true w counter identity flag revision = heard1 w ++ heard2 counter identity flag revision
-opening false w counter identity flag revision = heard2 counter identity flag revision
+unfoldable pub opening : Bool → ℕ → Words → List Exchange
+opening true w read = heard1 w ++ heard2 read
+opening false w read = heard2 read
 
 -- ---- identity, revision, file kind and remaining places
 
-pub record Fits (file : Summary) (counter identity flag revision : ℕ) : Type 0 where
-  pub counted : counter ≤ 28
-  pub same : identity ≡ file .identity
+pub record Fits (target : Target) (kept : ℕ) (read : Words) : Type 0 where
+  pub counted : read .counter ≤ 28
+  pub same : read .identity ≡ target .identity
   -- the revision's high byte
-  pub young : 6 ≤ revision / 16777216
-  pub kind : ((file .kind ≡ Legacy) × (flag ≡ 0) × (counter < 28)) ⊎ ((file .kind ≡ Production) × ((flag ≡ 0xFFFE0001) ⊎ (counter ≡ 28)))
-  pub places : file .configs ≤ counter
+  pub young : 6 ≤ read .revision / 16777216
+  pub kind : ((target .kind ≡ Legacy) × (read .flag ≡ 0) × (read .counter < 28))
+      ⊎ ((target .kind ≡ Production) × ((read .flag ≡ 0xFFFE0001) ⊎ (read .counter ≡ 28)))
+  -- a place for each configuration, beside those that are kept free
+  pub places : target .configs + kept ≤ read .counter
 
-pub record Matched (file : Summary) (wanted : Bool) (rs : List Reply) : Type 0 where
+pub record Matched (T : Terms) (target : Target) (rs : List Reply) : Type 0 where
   -- what step 1 read, where it is wanted
   pub captured : ℕ
-  pub counter : ℕ
-  pub identity : ℕ
-  pub flag : ℕ
-  pub revision : ℕ
-  pub came : Heard (opening wanted captured counter identity flag revision) rs
-  pub fits : Fits file counter identity flag revision
+  pub read : Words
+  pub came : Heard (opening (T .wanted) captured read) rs
+  pub fits : Fits target (T .kept) read

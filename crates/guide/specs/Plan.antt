@@ -37,3 +37,8 @@ unfoldable pub verdict : Plan → List Reply → Outcome
 verdict (ask q next) [] = waiting
 verdict (ask q next) (r ∷ rs) = verdict (next r) rs
 verdict (done v) rs = ended v
+
+-- the requests alone, without their marks
+unfoldable pub bare : List Asked → List Request
+bare [] = []
+bare (q ∷ qs) = q .request ∷ bare qs

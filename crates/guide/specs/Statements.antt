@@ -12,24 +12,26 @@ use Rattle.line.specs.declared.Line.{Line}
 use Rattle.cuts.specs.Lines.{linesOf}
 use Rattle.line.specs.Digits.{digitVal, valuesOf}
 use Rattle.summary.specs.declared.Summary.{Summary}
-use Rattle.image.specs.Says.{summaryOf}
 use Rattle.bus.specs.declared.ReplyForm.the-variants.{Good}
 use Rattle.bus.specs.Bus.{eight, writeOf, pointTo, readData}
 use Rattle.bus.specs.ReplyForm.{formOf}
 use Rattle.guide.specs.declared.Verdict.{Verdict}
 use Rattle.guide.specs.declared.Verdict.the-variants.{Done}
 use Rattle.guide.specs.declared.Fit.the-variants as fit
+use Rattle.guide.specs.declared.Target.{Target}
+use Rattle.guide.specs.declared.Words.{Words}
 use Rattle.guide.specs.Numbers.{verdictTold}
-use Rattle.guide.specs.Judged.{fitOf, bank, bankIn}
-use Rattle.guide.specs.Plan.{Reply, Mark, other, fileLine, Asked, Plan, ended, requests, verdict}
-use Rattle.guide.specs.Guide.{lineRequest, idIn, crcIn, writeLinesOf, guideFor}
-use Rattle.guide.specs.Matched.{Exchange, wrote, got, Heard, opening, Fits, Matched}
+use Rattle.guide.specs.Terms.{Terms}
+use Rattle.guide.specs.Judged.{fitOf}
+use Rattle.guide.specs.Plan.{Reply, Mark, other, fileLine, Asked, Plan, ended, requests, verdict, bare}
+use Rattle.guide.specs.Guide.{targetOf, lineRequest, idIn, crcIn, writeLinesOf, guideFor}
+use Rattle.guide.specs.Matched.{Exchange, wrote, got, Heard, askedIn, opening, Fits, Matched}
 
 -- ---- the judgement passes exactly where the values match
 
-pub record JudgedExactly (file : Summary) (counter identity flag revision : ℕ) : Type 0 where
-  pub passes : Fits file counter identity flag revision → fitOf (file .kind) (file .identity) (file .configs) 0 counter identity flag revision ≡ fit.Matched
-  pub matches : fitOf (file .kind) (file .identity) (file .configs) 0 counter identity flag revision ≡ fit.Matched → Fits file counter identity flag revision
+pub record JudgedExactly (target : Target) (kept : ℕ) (read : Words) : Type 0 where
+  pub passes : Fits target kept read → fitOf target kept read ≡ fit.Matched
+  pub matches : fitOf target kept read ≡ fit.Matched → Fits target kept read
 
 -- ---- the write lines among some requests, and the burn, which is line n
 
@@ -63,11 +65,6 @@ pub data AllInForm : List Asked → List Reply → Type 0 where
   more : (q : Asked) (qs : List Asked) (r : Reply) (rs : List Reply) (w : ℕ) → formOf (q .request) (r .kind) (r .bytes) ≡ Good w → AllInForm qs rs
       → AllInForm (q ∷ qs) (r ∷ rs)
 
--- the requests of steps 1 and 2
-unfoldable pub openingCount : Bool → ℕ
-openingCount true = 10
-openingCount false = 6
-
 -- how often the burn's bytes, C0 E7 08 00 DA, stand among some requests, whatever their marks
 unfoldable pub sameBytes : List ℕ → List ℕ → Bool
 sameBytes [] [] = true
@@ -94,33 +91,37 @@ heard4 [] = []
 heard4 (w ∷ ws) = got readData w ∷ heard4 ws
 
 -- for each N the request before carries its identifier, and the CRC read is the file's
-unfoldable pub heard6 : Summary → ℕ → ℕ → ℕ → List Exchange
-heard6 file restore zero N = []
-heard6 file restore (suc left) N =
-    wrote (writeOf restore (idIn file N ∷ [])) ∷ wrote (pointTo 0x94 0x00) ∷ got readData (crcIn file N) ∷ heard6 file restore left (N + 1)
+unfoldable pub heard6 : Terms → Summary → ℕ → ℕ → List Exchange
+heard6 T file zero N = []
+heard6 T file (suc left) N =
+    wrote (writeOf (T .restore) (idIn file N ∷ [])) ∷ wrote (pointTo 0x94 0x00) ∷ got readData (crcIn file N) ∷ heard6 T file left (N + 1)
 
-module _ (text : List ℕ) (wanted : Bool) (limit restore : ℕ) (rs : List Reply) where
-  abbrev pub file : Summary
-  file = summaryOf text
+-- the hex digit 1 in the k lowest places: banks 0 to k - 1 are 0001 and the others 0000
+unfoldable pub ones : ℕ → ℕ
+ones zero = 0
+ones (suc k) = 16 * ones k + 1
 
+-- by the terms, what the file says, its text, and the replies
+module _ (T : Terms) (file : Summary) (text : List ℕ) (rs : List Reply) where
   abbrev pub list : List Asked
-  list = requests (guideFor text wanted limit restore) rs
+  list = requests (guideFor T file text) rs
 
-  -- no write line unless they matched; if they matched, the first write line is next after steps 1 and 2
+  -- no write line unless they matched; if they matched, the first write line is next after exactly the requests of steps 1 and 2
   pub record Gate : Type 0 where
-    pub unless : Matched file wanted rs ⊎ (linesIn list ≡ [])
-    pub next : Matched file wanted rs
+    pub unless : Matched T (targetOf file) rs ⊎ (linesIn list ≡ [])
+    pub next : (m : Matched T (targetOf file) rs)
         → (before : List Asked) × (l : Line) × (ls : List Line) × (rest : List Asked)
-        × (writeLinesOf text ≡ l ∷ ls) × (list ≡ before ++ (lineAsked 5 l ∷ rest)) × (length before ≡ openingCount wanted)
+        × (writeLinesOf text ≡ l ∷ ls) × (list ≡ before ++ (lineAsked 5 l ∷ rest))
+        × (bare before ≡ askedIn (opening (T .wanted) (m .captured) (m .read)))
 
   -- the burn once if they matched and every earlier request was answered in form, otherwise never
   pub record Burns : Type 0 where
-    pub once : Matched file wanted rs → AllInForm (beforeBurn (file .lines) list) rs → burnsIn (file .lines) list ≡ 1
-    pub never : (Matched file wanted rs × AllInForm (beforeBurn (file .lines) list) rs → ⊥) → burnsIn (file .lines) list ≡ 0
+    pub once : Matched T (targetOf file) rs → AllInForm (beforeBurn (file .lines) list) rs → burnsIn (file .lines) list ≡ 1
+    pub never : (Matched T (targetOf file) rs × AllInForm (beforeBurn (file .lines) list) rs → ⊥) → burnsIn (file .lines) list ≡ 0
 
   -- at most lines + poll limit + 3 x configurations + 9
   unfoldable pub Bounded : Type 0
-  Bounded = length list ≤ file .lines + limit + 3 * file .configs + 9
+  Bounded = length list ≤ file .lines + T .limit + 3 * file .configs + 9
 
   -- a request marked line i has exactly the bytes of line i of the text, from its address to its CRC
   pub record MarksTell : Type 0 where
@@ -133,27 +134,32 @@ module _ (text : List ℕ) (wanted : Bool) (limit restore : ℕ) (rs : List Repl
 
   -- ---- DONE exactly when
 
+  -- steps 1 to 6
+  abbrev pub throughout : ℕ → Words → List ℕ → ℕ → ℕ → List Exchange
+  throughout captured read busy last banks =
+      opening (T .wanted) captured read
+      ++ (heard3 (writeLinesOf text)
+      ++ (wrote (pointTo 0x7E 0x00) ∷ (heard4 busy
+      ++ (got readData last ∷ wrote (pointTo 0x7F 0x00) ∷ got readData banks ∷ heard6 T file (file .configs) 0))))
+
   pub record DoneWhen : Type 0 where
-    pub matched : Matched file wanted rs
+    pub matched : Matched T (targetOf file) rs
     -- the statuses read before the last, the last, and the banks
     pub busy : List ℕ
     pub last : ℕ
     pub banks : ℕ
-    pub answered : Heard
-        (opening wanted (matched .captured) (matched .counter) (matched .identity) (matched .flag) (matched .revision)
-        ++ (heard3 (writeLinesOf text)
-        ++ (wrote (pointTo 0x7E 0x00) ∷ (heard4 busy
-        ++ (got readData last ∷ wrote (pointTo 0x7F 0x00) ∷ got readData banks ∷ heard6 file restore (file .configs) 0)))))
-        rs
-    pub polls : length busy < limit
+    pub answered : Heard (throughout (matched .captured) (matched .read) busy last banks) rs
+    pub polls : length busy < T .limit
     pub clear : (i : ℕ) → i < length busy → getD busy i 0 % 2 ≡ 0
     pub passed : last % 64 ≡ 1
-    pub reported : (b : ℕ) → b < file .configs → bankIn banks (bank b) ≡ 1
-    pub unused : (b : ℕ) → file .configs ≤ b → b < 8 → bankIn banks (bank b) ≡ 0
+    -- a register has 32 bits
+    pub reported : banks % 4294967296 ≡ ones (file .configs)
 
   pub record DoneExactly : Type 0 where
-    pub done-when : verdict (guideFor text wanted limit restore) rs ≡ ended Done → DoneWhen
-    pub when-done : DoneWhen → verdict (guideFor text wanted limit restore) rs ≡ ended Done
+    pub done-when : verdict (guideFor T file text) rs ≡ ended Done → DoneWhen
+    pub when-done : DoneWhen → verdict (guideFor T file text) rs ≡ ended Done
+    -- exactly these requests went out: the registers, the lines, the identifiers
+    pub asked : (d : DoneWhen) → bare list ≡ askedIn (throughout (d .matched .captured) (d .matched .read) (d .busy) (d .last) (d .banks))
 
 -- ---- of every plan
 

@@ -1,9 +1,13 @@
 // Step 2: whether the device is the one that the file is for, 23 to 28 in document 01's order.
 use crate::Fit;
 use crate::Reason;
+use crate::Target;
+use crate::Words;
 use counts::Kind;
 use counts::KindFound;
+use summary::Summary;
 ghost use mathlib.Core.Path.{_≡_};
+ghost use Rattle.guide.specs.Guide.{targetOf};
 ghost use Rattle.guide.specs.Judged.{kindWanted, sameKind, fitKind, fitOf};
 
 // The kind of file that a device with this counter and this flag wants.
@@ -41,24 +45,18 @@ fn same_kind(a: Kind, b: Kind) -> bool
 }
 
 // FLAG, OLD, KIND, PLACES, where the counter and the identity passed.
-fn fit_kind(
-    kind: Kind,
-    configs: u8,
-    kept: u8,
-    counter: u32,
-    revision: u32,
-    wanted: KindFound,
-) -> Fit
-    ensures { λ r. ⌜ r ≡ fitKind kind configs kept counter revision wanted ⌝ }
+fn fit_kind(target: Target, kept: u8, read: Words, wanted: KindFound) -> Fit
+    ensures { λ r. ⌜ r ≡ fitKind target kept read wanted ⌝ }
 {
     match wanted {
         KindFound::Unknown => Fit::Fails(Reason::Flag),
         KindFound::Is(found) => {
-            if revision / 16777216 < 6 {
+            if read.revision / 16777216 < 6 {
                 return Fit::Fails(Reason::Old);
             }
+            let kind = target.kind;
             if same_kind(kind, found) {
-                if counter < configs as u32 + kept as u32 {
+                if read.counter < target.configs as u32 + kept as u32 {
                     Fit::Fails(Reason::Places)
                 } else {
                     Fit::Matched
@@ -70,32 +68,30 @@ fn fit_kind(
     }
 }
 
-impl Fit {
-    // Of a file of this kind and identity with so many configurations, where so many of the device's places are kept free.
-    pub fn of(
-        kind: Kind,
-        expected: u32,
-        configs: u8,
-        kept: u8,
-        counter: u32,
-        identity: u32,
-        flag: u32,
-        revision: u32,
-    ) -> Fit
-        ensures { λ r. ⌜ r ≡ fitOf kind expected configs kept counter identity flag revision ⌝ }
+impl Target {
+    // Of a file that says this.
+    pub fn of(file: Summary) -> Target
+        ensures { λ r. ⌜ r ≡ targetOf file ⌝ }
     {
-        if 28 < counter {
+        let kind = file.kind;
+        Target {
+            kind: kind,
+            identity: file.identity,
+            configs: file.configs,
+        }
+    }
+}
+
+impl Fit {
+    // Of what a file asks and what was read of a device, where so many of its places are kept free.
+    pub fn of(target: Target, kept: u8, read: Words) -> Fit
+        ensures { λ r. ⌜ r ≡ fitOf target kept read ⌝ }
+    {
+        if 28 < read.counter {
             return Fit::Fails(Reason::Counter);
         }
-        if identity == expected {
-            fit_kind(
-                kind,
-                configs,
-                kept,
-                counter,
-                revision,
-                kind_wanted(counter, flag),
-            )
+        if read.identity == target.identity {
+            fit_kind(target, kept, read, kind_wanted(read.counter, read.flag))
         } else {
             Fit::Fails(Reason::Identity)
         }

@@ -2,14 +2,15 @@
 mod fits;
 mod found;
 mod numbers;
-mod words;
+mod requests;
 
 use counts::ConfigNumber;
+use counts::Kind;
 pub use fits::kind_wanted;
 pub use found::banks_right;
+pub use requests::cleared;
+pub use requests::line_request;
 use summary::Refusal;
-pub use words::cleared;
-pub use words::line_request;
 
 // Why a session that had begun is halted, 20 to 30.
 pub enum Reason {
@@ -33,6 +34,21 @@ pub enum Verdict {
     File(Refusal),
     Mismatch(ConfigNumber),
     Halted(Reason),
+}
+
+// What a file asks of the device that it is for: its kind, its identity and a place for each configuration.
+pub struct Target {
+    pub kind: Kind,
+    pub identity: u32,
+    pub configs: u8,
+}
+
+// The words that step 2 reads, in its order.
+pub struct Words {
+    pub counter: u32,
+    pub identity: u32,
+    pub flag: u32,
+    pub revision: u32,
 }
 
 // 23 to 28, or none of them.

@@ -1,13 +1,4 @@
 pub mod Tests
-pub mod Cases
 pub mod Ids
 pub mod Laws
-pub mod SettingsOut
-pub mod Spoiled
-pub mod Every
-pub mod Refusing
-pub mod FifteenExactly
-pub mod CarriesOn
-pub mod BeginsSo
-pub mod FourteenExactly
 pub mod OneAnswer

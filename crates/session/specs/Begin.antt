@@ -13,6 +13,7 @@ use Rattle.image.specs.Check.{checkOf}
 use Rattle.bus.specs.Bus.{noRequest, pointTo}
 use Rattle.guide.specs.declared.Verdict.{Verdict}
 use Rattle.guide.specs.declared.Verdict.the-variants.{Setting, File}
+use Rattle.guide.specs.declared.Words.{Words}
 use Rattle.session.specs.declared.Settings.{Settings}
 use Rattle.session.specs.declared.Position.{Position}
 use Rattle.session.specs.declared.Session.{Session}
@@ -24,8 +25,11 @@ use Rattle.session.specs.Sound.{allowedOf}
 use Rattle.session.specs.Moves.{putOf, overOf}
 
 -- nothing read yet
+abbrev pub noWords : Words
+noWords = record { counter = 0; identity = 0; flag = 0; revision = 0 }
+
 unfoldable pub newPosition : LineNumber → ℕ → Position
-newPosition n place = record { line = n; place = place; config = configNumber 0; polls = 0; counter = 0; identity = 0; flag = 0 }
+newPosition n place = record { line = n; place = place; config = configNumber 0; polls = 0; read = noWords }
 
 -- nothing put out yet: count 0, no burn, a request of zeros
 unfoldable pub freshOf : Settings → Summary → Stage → Position → Session

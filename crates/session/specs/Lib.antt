@@ -1,4 +1,5 @@
 pub mod Reports
+pub mod Terms
 pub mod Sound
 pub mod Moves
 pub mod Private
@@ -6,4 +7,3 @@ pub mod Lines
 pub mod Stages
 pub mod Reply
 pub mod Begin
-pub mod Statements

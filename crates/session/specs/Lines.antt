@@ -20,8 +20,7 @@ use Rattle.session.specs.declared.Awaited.the-variants.{LineOut, StatusA
 use Rattle.session.specs.Moves.{withPosition, withBurned, putOf, badOf}
 
 unfoldable pub atLine : Position → LineNumber → ℕ → Position
-atLine p n place =
-    record { line = n; place = place; config = p .config; polls = p .polls; counter = p .counter; identity = p .identity; flag = p .flag }
+atLine p n place = record { line = n; place = place; config = p .config; polls = p .polls; read = p .read }
 
 -- the line goes out under its number, and the next one stands behind it
 unfoldable pub duePutOf : Session → Line → ℕ → LineNumber → Bool → Handed

@@ -9,54 +9,64 @@ use Rattle.counts.specs.Counts.{configNumber, firstLine}
 use Rattle.bus.specs.Bus.{writeOf, pointTo, readData, readBlock}
 use Rattle.guide.specs.declared.Reason.the-variants.{Program, Banks}
 use Rattle.guide.specs.declared.Verdict.the-variants.{Done, Mismatch, Halted}
+use Rattle.guide.specs.declared.Words.{Words}
 use Rattle.guide.specs.declared.Fit.{Fit}
 use Rattle.guide.specs.declared.Fit.the-variants.{Matched, Fails}
 use Rattle.guide.specs.declared.Polled.{Polled}
 use Rattle.guide.specs.declared.Polled.the-variants.{Busy, Passed, Failed}
 use Rattle.guide.specs.Judged.{fitOf, polledOf, banksRight}
-use Rattle.guide.specs.Guide.{idIn, crcIn}
+use Rattle.guide.specs.Guide.{targetOf, idIn, crcIn}
 use Rattle.session.specs.declared.Position.{Position}
 use Rattle.session.specs.declared.Session.{Session}
 use Rattle.session.specs.declared.Handed.{Handed}
 use Rattle.session.specs.declared.Awaited.the-variants.{IdentityRead, FlagAt, RevisionRead, StatusRead, BanksAt, Restore}
+use Rattle.session.specs.Terms.{keptOf}
 use Rattle.session.specs.Moves.{withPosition, putOf, endOf}
 use Rattle.session.specs.Lines.{putLineOf}
 
-unfoldable pub atCounter : Position → ℕ → Position
-atCounter p w = record { line = p .line; place = p .place; config = p .config; polls = p .polls; counter = w; identity = p .identity; flag = p .flag }
-
-unfoldable pub atIdentity : Position → ℕ → Position
-atIdentity p w = record { line = p .line; place = p .place; config = p .config; polls = p .polls; counter = p .counter; identity = w; flag = p .flag }
-
-unfoldable pub atFlag : Position → ℕ → Position
-atFlag p w = record { line = p .line; place = p .place; config = p .config; polls = p .polls; counter = p .counter; identity = p .identity; flag = w }
+unfoldable pub atRead : Position → Words → Position
+atRead p read = record { line = p .line; place = p .place; config = p .config; polls = p .polls; read = read }
 
 unfoldable pub atPolls : Position → ℕ → Position
-atPolls p n = record { line = p .line; place = p .place; config = p .config; polls = n; counter = p .counter; identity = p .identity; flag = p .flag }
+atPolls p n = record { line = p .line; place = p .place; config = p .config; polls = n; read = p .read }
 
 unfoldable pub atConfig : Position → ConfigNumber → Position
-atConfig p N = record { line = p .line; place = p .place; config = N; polls = p .polls; counter = p .counter; identity = p .identity; flag = p .flag }
+atConfig p N = record { line = p .line; place = p .place; config = N; polls = p .polls; read = p .read }
 
 -- ---- step 2: the counter, the identity and the flag are kept until the revision is read
 
+unfoldable pub withCounter : Words → ℕ → Words
+withCounter read w = record { counter = w; identity = read .identity; flag = read .flag; revision = read .revision }
+
+unfoldable pub withIdentity : Words → ℕ → Words
+withIdentity read w = record { counter = read .counter; identity = w; flag = read .flag; revision = read .revision }
+
+unfoldable pub withFlag : Words → ℕ → Words
+withFlag read w = record { counter = read .counter; identity = read .identity; flag = w; revision = read .revision }
+
+unfoldable pub withRevision : Words → ℕ → Words
+withRevision read w = record { counter = read .counter; identity = read .identity; flag = read .flag; revision = w }
+
+-- the same session with these words read
+abbrev pub havingRead : Session → Words → Session
+havingRead s read = withPosition s (atRead (s .position) read)
+
 unfoldable pub counterDoneOf : Session → ℕ → Handed
-counterDoneOf s w = putOf (withPosition s (atCounter (s .position) w)) IdentityRead (readBlock 0xAD)
+counterDoneOf s w = putOf (havingRead s (withCounter (s .position .read) w)) IdentityRead (readBlock 0xAD)
 
 unfoldable pub identityDoneOf : Session → ℕ → Handed
-identityDoneOf s w = putOf (withPosition s (atIdentity (s .position) w)) FlagAt (pointTo 0x87 0xBD)
+identityDoneOf s w = putOf (havingRead s (withIdentity (s .position .read) w)) FlagAt (pointTo 0x87 0xBD)
 
 unfoldable pub flagDoneOf : Session → ℕ → Handed
-flagDoneOf s w = putOf (withPosition s (atFlag (s .position) w)) RevisionRead (readBlock 0xAE)
+flagDoneOf s w = putOf (havingRead s (withFlag (s .position .read) w)) RevisionRead (readBlock 0xAE)
 
 -- 23 to 28 are tried after the AE reply; where none applies, line 5 is due
 unfoldable pub fitDoneOf : List ℕ → Session → Fit → Handed
 fitDoneOf text s Matched = putLineOf text s firstLine
 fitDoneOf text s (Fails r) = endOf s (Halted r)
 
--- no place of the device is kept free
 unfoldable pub fitHeld : Session → ℕ → Fit
-fitHeld s revision =
-    fitOf (s .file .kind) (s .file .identity) (s .file .configs) 0 (s .position .counter) (s .position .identity) (s .position .flag) revision
+fitHeld s revision = fitOf (targetOf (s .file)) (keptOf (s .settings)) (withRevision (s .position .read) revision)
 
 unfoldable pub revisionDoneOf : List ℕ → Session → ℕ → Handed
 revisionDoneOf text s w = fitDoneOf text s (fitHeld s w)

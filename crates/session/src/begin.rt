@@ -9,6 +9,7 @@ use bus::Bus;
 use counts::ConfigNumber;
 use counts::LineNumber;
 use guide::Verdict;
+use guide::Words;
 use summary::FileAnswer;
 use summary::Summary;
 ghost use mathlib.Core.Path.{_≡_};
@@ -25,9 +26,12 @@ impl Position {
             place: place,
             config: ConfigNumber(0),
             polls: 0,
-            counter: 0,
-            identity: 0,
-            flag: 0,
+            read: Words {
+                counter: 0,
+                identity: 0,
+                flag: 0,
+                revision: 0,
+            },
         }
     }
 }

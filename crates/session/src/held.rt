@@ -6,6 +6,7 @@ use counts::ConfigId;
 use summary::Summary;
 ghost use mathlib.Core.Path.{_≡_};
 ghost use Prim.Native.Nat.{_<_};
+ghost use Rattle.session.specs.Terms.{keptOf};
 ghost use Rattle.session.specs.Sound.{allowedOf, idsTo, fileSound, heldSound, soundOf};
 
 impl Settings {
@@ -24,6 +25,13 @@ impl Settings {
         } else {
             true
         }
+    }
+
+    // How many of the device's places are kept free.
+    pub(crate) fn kept(self) -> u8
+        ensures { λ r. ⌜ r ≡ keptOf self ⌝ }
+    {
+        0
     }
 }
 

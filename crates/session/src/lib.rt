@@ -11,6 +11,7 @@ use bus::Request;
 use counts::ConfigNumber;
 use counts::LineNumber;
 use guide::Verdict;
+use guide::Words;
 use summary::Summary;
 use summary::Told;
 
@@ -72,9 +73,8 @@ pub struct Position {
     pub config: ConfigNumber,
     // Those answered with bit 0 clear.
     pub polls: u16,
-    pub counter: u32,
-    pub identity: u32,
-    pub flag: u32,
+    // What step 2 has read so far.
+    pub read: Words,
 }
 
 pub struct Session {

@@ -8,6 +8,7 @@ use counts::LineNumber;
 use guide::Fit;
 use guide::Polled;
 use guide::Reason;
+use guide::Target;
 use guide::Verdict;
 ghost use mathlib.Core.Path.{_≡_};
 ghost use Prim.Native.Nat.{_<_};
@@ -21,7 +22,7 @@ impl Session {
         ensures { λ r. ⌜ r ≡ counterDoneOf self word ⌝ }
     {
         let mut p = self.position;
-        p.counter = word;
+        p.read.counter = word;
         self.moved(p)
             .put(Awaited::IdentityRead, Bus::read(Bus::IDENTITY, 6))
     }
@@ -32,7 +33,7 @@ impl Session {
         ensures { λ r. ⌜ r ≡ identityDoneOf self word ⌝ }
     {
         let mut p = self.position;
-        p.identity = word;
+        p.read.identity = word;
         self.moved(p).put(Awaited::FlagAt, Bus::point(Bus::FLAG))
     }
 
@@ -42,29 +43,21 @@ impl Session {
         ensures { λ r. ⌜ r ≡ flagDoneOf self word ⌝ }
     {
         let mut p = self.position;
-        p.flag = word;
+        p.read.flag = word;
         self.moved(p)
             .put(Awaited::RevisionRead, Bus::read(Bus::REVISION, 6))
     }
 
-    // No place of the device is kept free.
+    // The words that step 2 read, with the last of them.
     pub(crate) fn revision_done(self, text: &[u8], word: u32) -> Handed
         requires { ⌜ Ready self ⌝ }
         ensures { λ r. ⌜ r ≡ revisionDoneOf (now (text .entry)) self word ⌝ }
     {
         let file = self.file;
-        let kind = file.kind;
-        let p = self.position;
-        let fit = Fit::of(
-            kind,
-            file.identity,
-            file.configs,
-            0,
-            p.counter,
-            p.identity,
-            p.flag,
-            word,
-        );
+        let settings = self.settings;
+        let mut read = self.position.read;
+        read.revision = word;
+        let fit = Fit::of(Target::of(file), settings.kept(), read);
         match fit {
             Fit::Matched => self.put_line(text, LineNumber::first_write()),
             Fit::Fails(reason) => self.end(Verdict::Halted(reason)),

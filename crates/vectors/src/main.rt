@@ -7,6 +7,8 @@ use counts::Kind;
 use counts::KindFound;
 use guide::Fit;
 use guide::Polled;
+use guide::Target;
+use guide::Words;
 use libc::STDOUT_FILENO;
 use said::say;
 
@@ -24,16 +26,18 @@ fn say_kind(kind: Kind) {
 
 // The kind wanted, or what 23 to 28 say of a file of this kind with one configuration whose identity and revision are right.
 fn judge(kind: Kind, counter: u32, flag: u32) {
-    let fit = Fit::of(
-        kind,
-        0x49D28100,
-        1,
-        0,
-        counter,
-        0x49D28100,
-        flag,
-        0x06000000,
-    );
+    let target = Target {
+        kind: kind,
+        identity: 0x49D28100,
+        configs: 1,
+    };
+    let read = Words {
+        counter: counter,
+        identity: 0x49D28100,
+        flag: flag,
+        revision: 0x06000000,
+    };
+    let fit = Fit::of(target, 0, read);
     match fit {
         Fit::Fails(reason) => say_number(reason.number()),
         Fit::Matched => {

@@ -1,6 +1,6 @@
 -- By what each call ensures. Assumes nothing.
 use Rattle.session.specs.Moves.{withPosition}
-use Rattle.session.specs.Stages.{counterDoneOf, atCounter}
+use Rattle.session.specs.Stages.{counterDoneOf, atRead, withCounter}
 use borrow.Author.Needs.{needs}
 use Rattle.session.proofs.Session.counter_done.Statement.{statement}
 use Rattle.session.proofs.Session.counter_done.Tie as tie
@@ -10,7 +10,7 @@ unfolding withPosition
 put-requires c κs = rw (c .before .moved .ensures) (search needs)
 
 returns : tie.Need-returns
-unfolding counterDoneOf atCounter
+unfolding counterDoneOf atRead withCounter
 returns c = rw (c .put .ensures, c .before .read .ensures, c .before .before .moved .ensures)
 
 pub counter-done-spec : {M : Type 1} → statement M

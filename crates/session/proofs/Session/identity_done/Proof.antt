@@ -1,6 +1,6 @@
 -- By what each call ensures. Assumes nothing.
 use Rattle.session.specs.Moves.{withPosition}
-use Rattle.session.specs.Stages.{identityDoneOf, atIdentity}
+use Rattle.session.specs.Stages.{identityDoneOf, atRead, withIdentity}
 use borrow.Author.Needs.{needs}
 use Rattle.session.proofs.Session.identity_done.Statement.{statement}
 use Rattle.session.proofs.Session.identity_done.Tie as tie
@@ -10,7 +10,7 @@ unfolding withPosition
 put-requires c κs = rw (c .before .moved .ensures) (search needs)
 
 returns : tie.Need-returns
-unfolding identityDoneOf atIdentity
+unfolding identityDoneOf atRead withIdentity
 returns c = rw (c .put .ensures, c .before .point .ensures, c .before .before .moved .ensures)
 
 pub identity-done-spec : {M : Type 1} → statement M

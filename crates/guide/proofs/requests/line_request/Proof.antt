@@ -8,8 +8,8 @@ use lib.Seq.{take-all}
 use Rattle.bus.specs.Bus.{eight, framed}
 use Rattle.guide.specs.Guide.{lineData, lineRequest}
 use borrow.Author.Needs.{needs}
-use Rattle.guide.proofs.words.line_request.Statement.{statement}
-use Rattle.guide.proofs.words.line_request.Tie as tie
+use Rattle.guide.proofs.requests.line_request.Statement.{statement}
+use Rattle.guide.proofs.requests.line_request.Tie as tie
 
 all-four : (l : Line) → 4 ≤ l .count → lineData l ≡ l .d0 ∷ l .d1 ∷ l .d2 ∷ l .d3 ∷ []
 unfolding lineData

@@ -2,8 +2,8 @@
 use mathlib.Core.Path.{refl}
 use Rattle.guide.specs.Judged.{cleared}
 use borrow.Author.Needs.{needs}
-use Rattle.guide.proofs.words.cleared.Statement.{statement}
-use Rattle.guide.proofs.words.cleared.Tie as tie
+use Rattle.guide.proofs.requests.cleared.Statement.{statement}
+use Rattle.guide.proofs.requests.cleared.Tie as tie
 
 returns : tie.Need-returns
 unfolding cleared

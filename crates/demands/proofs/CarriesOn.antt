@@ -8,16 +8,16 @@ use Rattle.bus.specs.declared.ReplyForm.{ReplyForm}
 use Rattle.bus.specs.declared.ReplyForm.the-variants.{Unanswered, Misshapen, Miscoded, Good}
 use Rattle.bus.specs.ReplyForm.{formOf}
 use Rattle.guide.specs.declared.Verdict.{Verdict}
 use Rattle.session.specs.declared.Session.{Session}
 use Rattle.session.specs.declared.Stage.{Stage}
 use Rattle.session.specs.declared.Stage.the-variants.{Open, Ended}
 use Rattle.session.specs.declared.Awaited.{Awaited}
 use Rattle.session.specs.Moves.{withStage, withSent, putOf, endOf, badOf, overOf}
 use Rattle.session.specs.Sound.{soundOf}
 use Rattle.session.specs.Reply.{repliedOf, stageOf, replyOf}
-use Rattle.session.specs.Statements.{Carried, CarriesOn}
-use Rattle.session.proofs.Cases.{next-bad, next-over}
-use Rattle.session.proofs.Every.{Kept, step-every}
+use Rattle.demands.specs.Exactly.{Carried, CarriesOn}
+use Rattle.demands.proofs.Cases.{next-bad, next-over}
+use Rattle.demands.proofs.EveryStep.{Kept, step-every}
 
 module _ (s : Session) where
   put-carried : (g : Awaited) (t : Session) → Kept s t → (next : Awaited) (q : Request) → Carried s (putOf t next q)

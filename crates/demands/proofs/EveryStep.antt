@@ -25,18 +25,19 @@ use Rattle.guide.specs.declared.Fit.the-variants.{Matched, Fails}
 use Rattle.guide.specs.declared.Polled.{Polled}
 use Rattle.guide.specs.declared.Polled.the-variants.{Busy, Passed, Failed}
 use Rattle.guide.specs.Judged.{polledOf, banksRight}
-use Rattle.guide.specs.Guide.{crcIn}
+use Rattle.guide.specs.Guide.{crcIn, targetOf}
 use Rattle.guide.proofs.JudgedExactly.{judged-exactly}
 use Rattle.session.specs.declared.Position.{Position}
 use Rattle.session.specs.declared.Session.{Session}
 use Rattle.session.specs.declared.Handed.{Handed}
 use Rattle.session.specs.declared.Awaited.{Awaited}
 use Rattle.session.specs.declared.Awaited.the-variants.{CaptureAt, CaptureRead, CaptureWrite, CaptureApply, CounterAt, CounterRead, IdentityRead, FlagAt, FlagRead, RevisionRead, LineOut, StatusAt, StatusRead, BanksAt, BanksRead, Restore, CrcAt, CrcRead}
 use Rattle.session.specs.Moves.{withPosition, withBurned, putOf, endOf, badOf}
 use Rattle.session.specs.Lines.{duePutOf, tookOf, dueOf, putLineOf, lineDoneOf}
-use Rattle.session.specs.Stages.{counterDoneOf, identityDoneOf, flagDoneOf, fitDoneOf, fitHeld, revisionDoneOf, pollAgainOf, polledDoneOf, statusDoneOf, restoreOf, banksDoneOf, restoreNextOf, crcDoneOf}
+use Rattle.session.specs.Stages.{counterDoneOf, identityDoneOf, flagDoneOf, fitDoneOf, fitHeld, revisionDoneOf, pollAgainOf, polledDoneOf, statusDoneOf, restoreOf, banksDoneOf, restoreNextOf, crcDoneOf, withRevision}
 use Rattle.session.specs.Reply.{followOf}
-use Rattle.session.specs.Statements.{Due, first, later, Unfit, noLine, early, late}
+use Rattle.demands.specs.Exactly.{Due, first, later, Unfit, noLine, early, late}
+use Rattle.session.specs.Terms.{keptOf}
 
 -- of a choice, by both its sides
 pub by : {A : Type 0} (Q : A → Type 0) (b : Bool) (x y : A) → (b ≡ true → Q x) → (b ≡ false → Q y) → Q (cond b x y)
@@ -90,7 +91,7 @@ module _ (text : List ℕ) (s : Session) (word : ℕ) (P : Awaited → Handed �
 
   fit-every : (f : Fit) → fitHeld s word ≡ f → P RevisionRead (fitDoneOf text s f)
   unfolding fitDoneOf fitHeld
-  fit-every Matched e = line-every RevisionRead _ (first (judged-exactly (s .file) (s .position .counter) (s .position .identity) (s .position .flag) word .matches e))
+  fit-every Matched e = line-every RevisionRead _ (first (judged-exactly (targetOf (s .file)) (keptOf (s .settings)) (withRevision (s .position .read) word) .matches e))
   fit-every (Fails r) e = ends RevisionRead (Halted r)
 
   polled-every : (p : Polled) → P StatusRead (polledDoneOf s p)

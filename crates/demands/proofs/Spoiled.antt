@@ -11,11 +11,11 @@ use borrow.Author.Tests.{ltb-true, leb-true, leb-false, ltb-false, eqb-false, lt
 use Rattle.counts.specs.Counts.{configId, lineCount}
 use Rattle.counts.specs.declared.ConfigId.{ConfigId}
 use Rattle.promise.proofs.Basics.{split}
 use Rattle.session.specs.declared.Session.{Session}
 use Rattle.session.specs.Sound.{idsSound, fileTests, fileSound, mostSent, heldTests, heldSound, stateTests, soundOf}
-use Rattle.session.specs.Statements.{Spoiled, setting, configs, lines, line, config, polls, identifier, count}
+use Rattle.demands.specs.Exactly.{Spoiled, setting, configs, lines, line, config, polls, identifier, count}
 use Rattle.session.proofs.Tests.{all-not, fails, none}
-use Rattle.session.proofs.SettingsOut.{out-refused, refused-out}
+use Rattle.demands.proofs.SettingsOut.{out-refused, refused-out}
 
 not-under : {a b : ℕ} → (a < b → ⊥) → b ≤ a
 not-under {a} {b} f = split (ltb a b) (λ e. absurd (f (ltb-true a b e))) (ltb-false a b)

@@ -11,13 +11,15 @@ use Rattle.line.specs.declared.NextLine.the-variants.{End, Took, Stopped}
 use Rattle.line.specs.Reading.{nextLine}
 use Rattle.summary.specs.Burn.{isBurn}
 use Rattle.guide.proofs.JudgedExactly.{judged-exactly}
 use Rattle.session.specs.declared.Session.{Session}
 use Rattle.session.specs.declared.Awaited.{Awaited}
 use Rattle.session.specs.Moves.{badOf}
 use Rattle.session.specs.Lines.{tookOf, dueOf, putLineOf, lineDoneOf}
-use Rattle.session.specs.Stages.{fitHeld, fitDoneOf, revisionDoneOf}
+use Rattle.session.specs.Stages.{fitHeld, fitDoneOf, revisionDoneOf, withRevision}
 use Rattle.session.specs.Reply.{followOf}
-use Rattle.session.specs.Statements.{Due, first, later, Unfit, noLine, early, late}
+use Rattle.demands.specs.Exactly.{Due, first, later, Unfit, noLine, early, late}
+use Rattle.guide.specs.Guide.{targetOf}
+use Rattle.session.specs.Terms.{keptOf}
 
 module _ (text : List ℕ) (s : Session) where
   noLine-bad : (n : LineNumber) (t : line.NextLine) → nextLine n (s .position .place) text ≡ t
@@ -44,5 +46,5 @@ module _ (text : List ℕ) (s : Session) where
   pub due-bad : (word : ℕ) (g : Awaited) (n : LineNumber) → Due s word g n → Unfit text s n → followOf text s g word ≡ badOf s
   unfolding followOf revisionDoneOf fitDoneOf fitHeld lineDoneOf
   due-bad word g n (first f) u =
-      rw (judged-exactly (s .file) (s .position .counter) (s .position .identity) (s .position .flag) word .passes f) (unfit-bad n u)
+      rw (judged-exactly (targetOf (s .file)) (keptOf (s .settings)) (withRevision (s .position .read) word) .passes f) (unfit-bad n u)
   due-bad word g n (later h) u = rw (lt-ltb (s .position .line .0) (s .file .lines) h) (unfit-bad n u)

@@ -1,4 +1,4 @@
--- 14 exactly where a setting is out of its range. Assumes nothing.
+-- 14 exactly where a setting is out of its range; otherwise a refused file is reported by its own number and line. Assumes nothing.
 use Prim.Native.Nat.{ℕ}
 use mathlib.Core.Path.{_≡_, refl, sym, ap, _∙_}
 use mathlib.Core.List.{List}
@@ -16,17 +16,17 @@ use Rattle.summary.specs.declared.Refusal.the-variants as refusal
 use Rattle.summary.specs.declared.FileAnswer.{FileAnswer}
 use Rattle.summary.specs.declared.FileAnswer.the-variants.{Accepted, Refused}
 use Rattle.image.specs.Check.{checkOf}
-use Rattle.summary.specs.Answers.{wholeNumber, refusalTold}
+use Rattle.summary.specs.Answers.{answerTold, wholeNumber, refusalTold}
 use Rattle.session.specs.declared.Settings.{Settings}
 use Rattle.session.specs.declared.Report.the-variants.{Waiting, Is}
 use Rattle.session.specs.Reports.{reportOf}
 use Rattle.session.specs.Sound.{allowedOf}
 use Rattle.session.specs.Moves.{overOf}
 use Rattle.session.specs.Begin.{refusedOf, answeredOf}
-use Rattle.session.specs.Statements.{FourteenExactly}
+use Rattle.demands.specs.Exactly.{FourteenExactly, ReportsFile}
 use Rattle.session.proofs.Laws.{begin-not}
-use Rattle.session.proofs.SettingsOut.{out-refused, refused-out}
-use Rattle.session.proofs.BeginsSo.{started, begun}
+use Rattle.demands.proofs.SettingsOut.{out-refused, refused-out}
+use Rattle.demands.proofs.BeginsSo.{started, begun}
 
 -- no file's refusal is 14
 fault-not : {A : Type 0} (f : Fault) → faultNumber f ≡ 14 → A
@@ -58,7 +58,18 @@ module _ (S : Settings) where
       let z : _≡_ {A = ℕ} 0 1 = cc in absurd (let y : ⊥ = omega arith in y)
   answered-not f (Refused r) t e n = let same : refusalTold r ≡ t = cc in refusal-not r (ap (λ (x : Told). x .number) same ∙ n)
 
+  answered-told : (f : Summary) (a : FileAnswer) → (answerTold a .number ≡ 0 → ⊥) → reportOf (answeredOf S f a .answer) ≡ Is (answerTold a)
+  unfolding answeredOf refusedOf overOf reportOf
+  answered-told f Accepted h = absurd (h refl)
+  answered-told f (Refused r) h = refl
+
 module _ (S : Settings) (text : List ℕ) where
+  pub reports-file : ReportsFile S text
+  unfolding ReportsFile
+  reports-file inside h =
+      split (allowedOf S) (λ a. rw (← begun S text a) (answered-told S (checkOf text .summary) (checkOf text .answer) h))
+      (λ a. absurd (inside (refused-out S a)))
+
   pub fourteen-exactly : FourteenExactly S text
   unfolding refusedOf overOf reportOf
   fourteen-exactly =

@@ -5,45 +5,45 @@ use mathlib.Core.Path.{_≡_, refl, sym, ap, _∙_}
 use mathlib.Core.Bool.{Bool, true, false, cond}
 use mathlib.Core.List.{List}
 use Rattle.counts.specs.declared.LineNumber.{LineNumber}
-use Rattle.bus.specs.Bus.{noRequest}
+use Rattle.bus.specs.Bus.{eight, noRequest}
 use Rattle.bus.specs.ReplyForm.{formOf}
 use Rattle.bus.specs.declared.Request.{Request}
 use Rattle.bus.specs.declared.ReplyForm.{ReplyForm}
 use Rattle.bus.specs.declared.ReplyForm.the-variants.{Unanswered, Misshapen, Miscoded, Good}
 use Rattle.guide.specs.declared.Verdict.{Verdict}
 use Rattle.session.specs.declared.Session.{Session}
 use Rattle.session.specs.declared.Handed.{Handed}
 use Rattle.session.specs.declared.Answer.the-variants.{Over, BadState}
 use Rattle.session.specs.declared.Stage.{Stage}
 use Rattle.session.specs.declared.Stage.the-variants.{Open, Ended}
 use Rattle.session.specs.declared.Awaited.{Awaited}
 use Rattle.session.specs.Moves.{withStage, putOf, endOf, badOf, overOf}
 use Rattle.session.specs.Sound.{soundOf}
 use Rattle.session.specs.Reply.{repliedOf, replyOf}
-use Rattle.session.specs.Statements.{Due, Unfit, Fifteen, before, due, FifteenExactly, VerdictStands}
-use Rattle.session.proofs.Cases.{next-bad, next-over, over-bad}
+use Rattle.demands.specs.Exactly.{zeros, Due, Unfit, Fifteen, before, due, FifteenExactly, VerdictStands}
+use Rattle.demands.proofs.Cases.{next-bad, next-over, over-bad}
 use Rattle.session.proofs.Laws.{when-ended, when-open}
-use Rattle.session.proofs.Spoiled.{spoiled-refused, refused-spoiled}
-use Rattle.session.proofs.Every.{Kept, step-every}
-use Rattle.session.proofs.Refusing.{due-bad}
+use Rattle.demands.proofs.Spoiled.{spoiled-refused, refused-spoiled}
+use Rattle.demands.proofs.EveryStep.{Kept, step-every}
+use Rattle.demands.proofs.Refusing.{due-bad}
 
 module _ (text : List ℕ) (s : Session) (kind : ℕ) (bs : List ℕ) where
   -- what is shown of what a call hands back
   record Shown (g : Awaited) (h : Handed) : Type 0 where
     only : h .answer ≡ BadState → Fifteen text s kind bs g
-    leaves : h .answer ≡ BadState → (h .session ≡ s) × (h .request ≡ noRequest)
-    ends : (v : Verdict) → h .answer ≡ Over v → (h .session .stage ≡ Ended v) × (h .request ≡ noRequest)
+    leaves : h .answer ≡ BadState → (h .session ≡ s) × (h .request ≡ zeros)
+    ends : (v : Verdict) → h .answer ≡ Over v → (h .session .stage ≡ Ended v) × (h .request ≡ zeros)
 
   put-shown : (g : Awaited) (t : Session) → Kept s t → (next : Awaited) (q : Request) → Shown g (putOf t next q)
   unfolding putOf
   put-shown g t k next q = record { only = λ e. next-bad e; leaves = λ e. next-bad e; ends = λ v e. next-over e }
 
   end-shown : (g : Awaited) (v : Verdict) → Shown g (endOf s v)
-  unfolding endOf withStage
+  unfolding endOf withStage noRequest eight
   end-shown g v = record { only = λ e. over-bad e; leaves = λ e. over-bad e; ends = λ w e. (cc, refl) }
 
   bad-shown : (g : Awaited) → Fifteen text s kind bs g → Shown g (badOf s)
-  unfolding badOf
+  unfolding badOf noRequest eight
   bad-shown g f = record { only = λ e. f; leaves = λ e. (refl, refl); ends = λ v e. over-bad (sym e) }
 
   replied-shown : (g : Awaited) (f : ReplyForm) → formOf (s .hand) kind bs ≡ f → Shown g (repliedOf text s g f)
@@ -63,8 +63,8 @@ module _ (text : List ℕ) (s : Session) (kind : ℕ) (bs : List ℕ) where
 
   -- the same verdict, the same state and a request of zeros
   still : (v : Verdict) → s .stage ≡ Ended v
-      → (replyOf text s kind bs .answer ≡ Over v) × (replyOf text s kind bs .session ≡ s) × (replyOf text s kind bs .request ≡ noRequest)
-  unfolding overOf
+      → (replyOf text s kind bs .answer ≡ Over v) × (replyOf text s kind bs .session ≡ s) × (replyOf text s kind bs .request ≡ zeros)
+  unfolding overOf noRequest eight
   still v e = rw (← when-ended text s kind bs v e) (refl, refl, refl)
 
   ended-by : (v w : Verdict) → s .stage ≡ Ended w → replyOf text s kind bs .answer ≡ Over v → replyOf text s kind bs .session .stage ≡ Ended v

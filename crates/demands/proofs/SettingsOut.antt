@@ -8,10 +8,10 @@ use lib.Dec.{eqb, leb}
 use borrow.Author.Tests.{leb-true, eqb-true, leb-false, not-false}
 use Rattle.promise.proofs.Basics.{split}
 use Rattle.bus.specs.Bus.{reserved}
 use Rattle.session.specs.declared.Settings.{Settings}
 use Rattle.session.specs.Sound.{settingTests, allowedOf}
-use Rattle.session.specs.Statements.{OtherCommand, c5, c6, c7, e7, ad, ae, SettingOut, limit, restore}
+use Rattle.demands.specs.Exactly.{OtherCommand, c5, c6, c7, e7, ad, ae, SettingOut, limit, restore}
 use Rattle.session.proofs.Tests.{all-not, fails, none}
 
 is-reserved : {c : ℕ} → OtherCommand c → reserved c ≡ true
 unfolding reserved

@@ -9,22 +9,22 @@ use Rattle.summary.specs.declared.FileAnswer.{FileAnswer}
 use Rattle.summary.specs.declared.FileAnswer.the-variants.{Accepted, Refused}
 use Rattle.image.specs.Check.{checkOf}
 use Rattle.bus.specs.declared.Request.{Request}
-use Rattle.bus.specs.Bus.{pointTo}
+use Rattle.bus.specs.Bus.{eight, noRequest, pointTo}
 use Rattle.guide.specs.declared.Verdict.{Verdict}
 use Rattle.guide.specs.declared.Verdict.the-variants.{Setting, File}
 use Rattle.session.specs.declared.Settings.{Settings}
 use Rattle.session.specs.declared.Session.{Session}
 use Rattle.session.specs.declared.Handed.{Handed}
 use Rattle.session.specs.declared.Answer.the-variants.{Next}
 use Rattle.session.specs.declared.Awaited.{Awaited}
 use Rattle.session.specs.declared.Awaited.the-variants.{CaptureAt, CounterAt}
 use Rattle.session.specs.Sound.{allowedOf}
 use Rattle.session.specs.Moves.{withStage, withSent, putOf, overOf}
 use Rattle.session.specs.Begin.{freshOf, firstOf, startOf, refusedOf, answeredOf, beginOf}
-use Rattle.session.specs.Statements.{Begun, BeginsSo}
-use Rattle.session.proofs.Cases.{next-bad, next-over, over-bad}
+use Rattle.demands.specs.Exactly.{Begun, BeginsSo}
+use Rattle.demands.proofs.Cases.{next-bad, next-over, over-bad}
 use Rattle.session.proofs.Laws.{begin-answered, begin-not}
-use Rattle.session.proofs.Every.{by}
+use Rattle.demands.proofs.EveryStep.{by}
 
 module _ (s : Session) where
   put-begun : (g : Awaited) (q : Request) → s .sent ≡ 0 → s .burned ≡ false → Begun (putOf s g q)
@@ -50,7 +50,7 @@ module _ (S : Settings) where
   start-begun f = of-first _ Begun (λ g q. put-begun _ g q refl refl)
 
   refused-begun : (v : Verdict) → Begun (refusedOf S v)
-  unfolding refusedOf overOf freshOf
+  unfolding refusedOf overOf freshOf noRequest eight
   refused-begun v = record { refused = λ w e. (cc, refl, refl, refl); accepted = λ e. next-over (sym e); never = λ e. over-bad e }
 
   answered-begun : (f : Summary) (a : FileAnswer) → Begun (answeredOf S f a)

@@ -2,7 +2,7 @@
 -- without the tests of Sound.antt. No promise cites this page: proofs/ shows each of these. Assumes nothing.
 use Prim.Native.Nat.{ℕ, _+_, _*_, _≤_, _<_}
 use mathlib.Core.Path.{_≡_}
-use mathlib.Core.List.{List}
+use mathlib.Core.List.{List, [], _∷_}
 use mathlib.Core.Bool.{true, false}
 use lib.ListN.{getD}
 use Rattle.counts.specs.declared.LineNumber.{LineNumber}
@@ -11,24 +11,32 @@ use Rattle.line.specs.declared.Line.{Line}
 use Rattle.line.specs.declared.NextLine.the-variants.{Took}
 use Rattle.line.specs.Reading.{nextLine}
 use Rattle.summary.specs.declared.Told.{Told}
-use Rattle.summary.specs.Answers.{plain}
+use Rattle.image.specs.Check.{checkOf}
+use Rattle.summary.specs.Answers.{answerTold, plain}
 use Rattle.summary.specs.Burn.{isBurn}
-use Rattle.bus.specs.Bus.{noRequest}
+use Rattle.bus.specs.declared.Request.{Request}
 use Rattle.bus.specs.ReplyForm.{formOf}
 use Rattle.bus.specs.declared.ReplyForm.the-variants.{Good}
 use Rattle.guide.specs.declared.Verdict.{Verdict}
+use Rattle.guide.specs.Guide.{targetOf}
 use Rattle.guide.specs.Matched.{Fits}
 use Rattle.session.specs.declared.Settings.{Settings}
 use Rattle.session.specs.declared.Session.{Session}
 use Rattle.session.specs.declared.Handed.{Handed}
 use Rattle.session.specs.declared.Stage.the-variants.{Open, Ended}
 use Rattle.session.specs.declared.Awaited.{Awaited}
 use Rattle.session.specs.declared.Awaited.the-variants.{RevisionRead, LineOut}
 use Rattle.session.specs.declared.Answer.the-variants.{Next, Over, BadState}
 use Rattle.session.specs.declared.Report.the-variants.{Is}
+use Rattle.session.specs.Terms.{keptOf}
+use Rattle.session.specs.Stages.{withRevision}
 use Rattle.session.specs.Reports.{reportOf}
 use Rattle.session.specs.Reply.{replyOf}
 use Rattle.session.specs.Begin.{beginOf}
+
+-- a request of zeros, written out
+abbrev pub zeros : Request
+zeros = record { bytes = 0x00 ∷ 0x00 ∷ 0x00 ∷ 0x00 ∷ 0x00 ∷ 0x00 ∷ 0x00 ∷ 0x00 ∷ []; used = 0; reads = false }
 
 -- ---- settings
 
@@ -70,7 +78,7 @@ pub data Spoiled (s : Session) : Type 0 where
 
 -- line 5 is due when the AE reply came in form and none of 23 to 28 applies, and a later one while the line in hand is before n
 pub data Due (s : Session) (word : ℕ) : Awaited → LineNumber → Type 0 where
-  first : Fits (s .file) (s .position .counter) (s .position .identity) (s .position .flag) word → Due s word RevisionRead (lineNumber 5)
+  first : Fits (targetOf (s .file)) (keptOf (s .settings)) (withRevision (s .position .read) word) → Due s word RevisionRead (lineNumber 5)
   later : s .position .line .0 < s .file .lines → Due s word LineOut (lineNumber (s .position .line .0 + 1))
 
 -- the text from the held place is no write line, or the burn and not line n, or line n and not the burn
@@ -105,12 +113,12 @@ module _ (text : List ℕ) (s : Session) (kind : ℕ) (bs : List ℕ) where
     pub only : handed .answer ≡ BadState → (g : Awaited) × (s .stage ≡ Open g) × Fifteen g
     pub when : (g : Awaited) → s .stage ≡ Open g → Fifteen g → handed .answer ≡ BadState
     -- 15 leaves the state as given, and comes with a request of zeros
-    pub leaves : handed .answer ≡ BadState → (handed .session ≡ s) × (handed .request ≡ noRequest)
+    pub leaves : handed .answer ≡ BadState → (handed .session ≡ s) × (handed .request ≡ zeros)
 
   -- a verdict ends the session and comes with a request of zeros; after it, the same verdict, the same state and a request of zeros
   pub record VerdictStands : Type 0 where
-    pub ends : (v : Verdict) → handed .answer ≡ Over v → (handed .session .stage ≡ Ended v) × (handed .request ≡ noRequest)
-    pub stays : (v : Verdict) → s .stage ≡ Ended v → (handed .answer ≡ Over v) × (handed .session ≡ s) × (handed .request ≡ noRequest)
+    pub ends : (v : Verdict) → handed .answer ≡ Over v → (handed .session .stage ≡ Ended v) × (handed .request ≡ zeros)
+    pub stays : (v : Verdict) → s .stage ≡ Ended v → (handed .answer ≡ Over v) × (handed .session ≡ s) × (handed .request ≡ zeros)
 
   unfoldable pub CarriesOn : Type 0
   CarriesOn = Carried s handed
@@ -121,7 +129,7 @@ module _ (text : List ℕ) (s : Session) (kind : ℕ) (bs : List ℕ) where
 -- request, count 1
 pub record Begun (h : Handed) : Type 0 where
   pub refused : (v : Verdict) → h .answer ≡ Over v
-      → (h .session .stage ≡ Ended v) × (h .session .sent ≡ 0) × (h .session .burned ≡ false) × (h .request ≡ noRequest)
+      → (h .session .stage ≡ Ended v) × (h .session .sent ≡ 0) × (h .session .burned ≡ false) × (h .request ≡ zeros)
   pub accepted : h .answer ≡ Next → (h .session .sent ≡ 1) × (h .session .hand ≡ h .request) × (h .session .burned ≡ false)
   -- 15 is not given
   pub never : h .answer ≡ BadState → ⊥
@@ -131,6 +139,11 @@ module _ (S : Settings) (text : List ℕ) where
   pub record FourteenExactly : Type 0 where
     pub only : (t : Told) → reportOf (beginOf S text .answer) ≡ Is t → t .number ≡ 14 → SettingOut S
     pub when : SettingOut S → reportOf (beginOf S text .answer) ≡ Is (plain 14)
+
+  -- where the settings are in their ranges and the file is refused, the report has the file's own number and line
+  unfoldable pub ReportsFile : Type 0
+  ReportsFile =
+      (SettingOut S → ⊥) → (answerTold (checkOf text .answer) .number ≡ 0 → ⊥) → reportOf (beginOf S text .answer) ≡ Is (answerTold (checkOf text .answer))
 
   unfoldable pub BeginsSo : Type 0
   BeginsSo = Begun (beginOf S text)
