@@ -8,22 +8,29 @@ use lib.ListN.{length}
 use Rattle.bus.specs.declared.Request.{Request}
 use Rattle.bus.specs.declared.ReplyForm.{ReplyForm}
 use Rattle.bus.specs.declared.ReplyForm.the-variants.{Unanswered, Misshapen, Miscoded, Good}
-use Rattle.bus.specs.Bus.{framed, readData, readBlock}
+use Rattle.bus.specs.Bus.{framed, readAddress, readOf}
 use Rattle.bus.specs.ReplyForm.{formOf}
 use Rattle.pec.specs.Pec.{pec}
+
+-- a read of a register, four bytes and a PEC, and of a block, which tells its own count before them
+abbrev pub askWord : ℕ → Request
+askWord address = readOf address 0xC5 5
+
+abbrev pub askBlock : ℕ → ℕ → Request
+askBlock address command = readOf address command 6
 
 -- the requests that there are: writes, and reads of a register and of a block
 pub data Made : Request → Type 0 where
   write : (sent : List ℕ) (p : ℕ) → Made (framed sent p)
-  register : Made readData
-  block : (command : ℕ) → Made (readBlock command)
+  register : (address : ℕ) → Made (askWord address)
+  block : (address command : ℕ) → Made (askBlock address command)
 
--- a read's PEC covers C0, the command, C1, and then the bytes read before it
-abbrev pub registerPec : ℕ → ℕ → ℕ → ℕ → ℕ
-registerPec a b c d = pec (0xC0 ∷ 0xC5 ∷ 0xC1 ∷ a ∷ b ∷ c ∷ d ∷ [])
+-- a read's PEC covers the address, the command, the read address, and then the bytes read before it
+abbrev pub registerPec : ℕ → ℕ → ℕ → ℕ → ℕ → ℕ
+registerPec address a b c d = pec (address ∷ 0xC5 ∷ readAddress address ∷ a ∷ b ∷ c ∷ d ∷ [])
 
-abbrev pub blockPec : ℕ → ℕ → ℕ → ℕ → ℕ → ℕ
-blockPec command a b c d = pec (0xC0 ∷ command ∷ 0xC1 ∷ 0x04 ∷ a ∷ b ∷ c ∷ d ∷ [])
+abbrev pub blockPec : ℕ → ℕ → ℕ → ℕ → ℕ → ℕ → ℕ
+blockPec address command a b c d = pec (address ∷ command ∷ readAddress address ∷ 0x04 ∷ a ∷ b ∷ c ∷ d ∷ [])
 
 -- the number that four bytes spell, lowest first
 abbrev pub spelled : ℕ → ℕ → ℕ → ℕ → ℕ
@@ -34,21 +41,23 @@ pub data InForm : Request → ℕ → List ℕ → ℕ → Type 0 where
   -- a write's reply has no bytes
   wrote : (sent : List ℕ) (p : ℕ) → InForm (framed sent p) 1 [] 0
   -- a register's is four bytes and the PEC
-  registerRead : (a b c d : ℕ) → InForm readData 1 (a ∷ b ∷ c ∷ d ∷ registerPec a b c d ∷ []) (spelled a b c d)
+  registerRead : (address a b c d : ℕ) → InForm (askWord address) 1 (a ∷ b ∷ c ∷ d ∷ registerPec address a b c d ∷ []) (spelled a b c d)
   -- a block's is 04, four bytes and the PEC
-  blockRead : (command a b c d : ℕ) → InForm (readBlock command) 1 (0x04 ∷ a ∷ b ∷ c ∷ d ∷ blockPec command a b c d ∷ []) (spelled a b c d)
+  blockRead : (address command a b c d : ℕ)
+      → InForm (askBlock address command) 1 (0x04 ∷ a ∷ b ∷ c ∷ d ∷ blockPec address command a b c d ∷ []) (spelled a b c d)
 
 -- a wrong byte count, or a block count that is not 4
 pub data WrongShape : Request → List ℕ → Type 0 where
   writeBytes : (sent : List ℕ) (p : ℕ) (rs : List ℕ) → (length rs ≡ 0 → ⊥) → WrongShape (framed sent p) rs
-  registerBytes : (rs : List ℕ) → (length rs ≡ 5 → ⊥) → WrongShape readData rs
-  blockBytes : (command : ℕ) (rs : List ℕ) → (length rs ≡ 6 → ⊥) → WrongShape (readBlock command) rs
-  blockCount : (command n : ℕ) (rs : List ℕ) → length rs ≡ 5 → (n ≡ 4 → ⊥) → WrongShape (readBlock command) (n ∷ rs)
+  registerBytes : (address : ℕ) (rs : List ℕ) → (length rs ≡ 5 → ⊥) → WrongShape (askWord address) rs
+  blockBytes : (address command : ℕ) (rs : List ℕ) → (length rs ≡ 6 → ⊥) → WrongShape (askBlock address command) rs
+  blockCount : (address command n : ℕ) (rs : List ℕ) → length rs ≡ 5 → (n ≡ 4 → ⊥) → WrongShape (askBlock address command) (n ∷ rs)
 
 -- the right counts, and a last byte that is not the PEC
 pub data WrongPec : Request → List ℕ → Type 0 where
-  registerCode : (a b c d p : ℕ) → (p ≡ registerPec a b c d → ⊥) → WrongPec readData (a ∷ b ∷ c ∷ d ∷ p ∷ [])
-  blockCode : (command a b c d p : ℕ) → (p ≡ blockPec command a b c d → ⊥) → WrongPec (readBlock command) (0x04 ∷ a ∷ b ∷ c ∷ d ∷ p ∷ [])
+  registerCode : (address a b c d p : ℕ) → (p ≡ registerPec address a b c d → ⊥) → WrongPec (askWord address) (a ∷ b ∷ c ∷ d ∷ p ∷ [])
+  blockCode : (address command a b c d p : ℕ) → (p ≡ blockPec address command a b c d → ⊥)
+      → WrongPec (askBlock address command) (0x04 ∷ a ∷ b ∷ c ∷ d ∷ p ∷ [])
 
 -- what each form says of a reply: 20, kind 0, whatever its bytes; 21, a kind above 1, or done in a wrong shape; 22, done with a
 -- wrong PEC; otherwise in form

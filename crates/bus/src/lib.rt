@@ -1,9 +1,11 @@
 // The bus: its codes and addresses, the requests, and the form of a reply.
 ghost use mathlib.Core.Path.{_≡_};
 ghost use mathlib.Core.List.{[], _∷_};
-ghost use Prim.Native.Nat.{_+_, _≤_, _%_, _/_};
-ghost use lib.ListN.{length};
-ghost use Rattle.bus.specs.Bus.{framed, writeOf, pointTo, readOf, noRequest, wordBytes, reserved};
+ghost use mathlib.Core.Bool.{false};
+ghost use Prim.Native.Nat.{_+_, _≤_};
+ghost use lib.ListN.{length, take};
+ghost use Rattle.bus.specs.declared.Request.{Request};
+ghost use Rattle.bus.specs.Bus.{framed, writeOf, readOf, noRequest, reserved};
 ghost use Rattle.bus.specs.ReplyForm.{wordOf, sealedOf, readForm, formOf};
 
 // What is handed to the host: eight bytes, of which `used` are sent or, of a read, ask; the others are zeros.
@@ -17,7 +19,7 @@ pub struct Request {
 pub struct Bus {}
 
 impl Bus {
-    // The device's address, to write and to read.
+    // The address that the lines of a file carry, and the one that it is read by.
     pub const WRITE: u8 = 0xC0;
 
     pub const READ: u8 = 0xC1;
@@ -55,73 +57,27 @@ impl Bus {
 
     pub const CRC: u16 = 0x0094;
 
-    // A write of one data byte: RESTORE_CFG with an identifier (document 01, step 6).
-    pub fn write1(command: u8, a: u8) -> Request
-        ensures { λ r. ⌜ r ≡ writeOf command (a ∷ []) ⌝ }
+    // A write of the first `count` of four data bytes, with the PEC of all that goes out before it.
+    pub fn write(address: u8, command: u8, count: usize, a: u8, b: u8, c: u8, d: u8) -> Request
+        ensures { λ r. ⌜ r ≡ writeOf address command (take count (a ∷ b ∷ c ∷ d ∷ [])) ⌝ }
     {
-        let body = [Bus::WRITE, command, a];
-        Request {
-            bytes: [Bus::WRITE, command, a, pec::of(&body), 0, 0, 0, 0],
-            used: 4,
-            reads: false,
+        let body = [address, command, a, b, c, d];
+        if count < 4 {
+            let code = pec::of(&body[..2 + count]);
+            framed(address, command, count, a, b, c, d, code)
+        } else {
+            let code = pec::of(&body);
+            framed(address, command, count, a, b, c, d, code)
         }
-    }
-
-    // A write of two data bytes with this PEC, not one made here: a line of the file is sent with its own last byte (step 3).
-    pub fn framed2(command: u8, a: u8, b: u8, pec: u8) -> Request
-        ensures { λ r. ⌜ r ≡ framed (0xC0 ∷ command ∷ a ∷ b ∷ []) pec ⌝ }
-    {
-        Request {
-            bytes: [Bus::WRITE, command, a, b, pec, 0, 0, 0],
-            used: 5,
-            reads: false,
-        }
-    }
-
-    // The same of four data bytes.
-    pub fn framed4(command: u8, a: u8, b: u8, c: u8, d: u8, pec: u8) -> Request
-        ensures { λ r. ⌜ r ≡ framed (0xC0 ∷ command ∷ a ∷ b ∷ c ∷ d ∷ []) pec ⌝ }
-    {
-        Request {
-            bytes: [Bus::WRITE, command, a, b, c, d, pec, 0],
-            used: 7,
-            reads: false,
-        }
-    }
-
-    // A write of two data bytes with the PEC that they have: E7 02 00 of step 1, and what `point` makes.
-    pub fn write2(command: u8, a: u8, b: u8) -> Request
-        ensures { λ r. ⌜ r ≡ writeOf command (a ∷ b ∷ []) ⌝ }
-    {
-        let body = [Bus::WRITE, command, a, b];
-        Bus::framed2(command, a, b, pec::of(&body))
-    }
-
-    // The write that points to a register, low byte first, before it is read (C7 A2 00 points to 00A2).
-    pub fn point(register: u16) -> Request
-        ensures { λ r. ⌜ r ≡ pointTo (register % 256) (register / 256) ⌝ }
-    {
-        Bus::write2(Bus::POINT, (register % 256) as u8, (register / 256) as u8)
-    }
-
-    // A write of a word, lowest byte first, as words are read: step 1 writes one back.
-    pub fn write4(command: u8, word: u32) -> Request
-        ensures { λ r. ⌜ r ≡ writeOf command (wordBytes word) ⌝ }
-    {
-        let a = (word % 256) as u8;
-        let b = (word / 256 % 256) as u8;
-        let c = (word / 65536 % 256) as u8;
-        let d = (word / 16777216 % 256) as u8;
-        let body = [Bus::WRITE, command, a, b, c, d];
-        Bus::framed4(command, a, b, c, d, pec::of(&body))
     }
 
     // A read whose reply has so many bytes: 5 for a register, 6 for a block. The count is no byte of the bus.
-    pub fn read(command: u8, count: u8) -> Request
-        ensures { λ r. ⌜ r ≡ readOf command count ⌝ }
+    pub fn read(address: u8, command: u8, count: u8) -> Request
+        ensures { λ r. ⌜ r ≡ readOf address command count ⌝ }
     {
+        let again = ((address as u16 + 1) % 256) as u8;
         Request {
-            bytes: [Bus::WRITE, command, Bus::READ, count, 0, 0, 0, 0],
+            bytes: [address, command, again, count, 0, 0, 0, 0],
             used: 4,
             reads: true,
         }
@@ -161,6 +117,30 @@ impl Bus {
     }
 }
 
+// A write whose last byte is a zero.
+fn laid(a: u8, b: u8, c: u8, d: u8, e: u8, f: u8, g: u8, used: u8) -> Request
+    ensures { λ r. ⌜ r ≡ record { bytes = a ∷ b ∷ c ∷ d ∷ e ∷ f ∷ g ∷ 0 ∷ []; used = used; reads = false } ⌝ }
+{
+    Request {
+        bytes: [a, b, c, d, e, f, g, 0],
+        used: used,
+        reads: false,
+    }
+}
+
+// The PEC right behind the data bytes that are used, and zeros behind it.
+fn framed(address: u8, command: u8, count: usize, a: u8, b: u8, c: u8, d: u8, pec: u8) -> Request
+    ensures { λ r. ⌜ r ≡ framed (address ∷ command ∷ take count (a ∷ b ∷ c ∷ d ∷ [])) pec ⌝ }
+{
+    match count {
+        0 => laid(address, command, pec, 0, 0, 0, 0, 3),
+        1 => laid(address, command, a, pec, 0, 0, 0, 4),
+        2 => laid(address, command, a, b, pec, 0, 0, 5),
+        3 => laid(address, command, a, b, c, pec, 0, 6),
+        _ => laid(address, command, a, b, c, d, pec, 7),
+    }
+}
+
 // What a reply is found to be: 20, 21 or 22, or in form with the word read (0 for a write).
 pub enum ReplyForm {
     Unanswered,
@@ -176,7 +156,7 @@ fn word(a: u8, b: u8, c: u8, d: u8) -> u32
     a as u32 + b as u32 * 256 + c as u32 * 65536 + d as u32 * 16777216
 }
 
-// The word at this place, if the byte behind it is the PEC of C0, the command, C1 and the bytes before it.
+// The word at this place, if the byte behind it is the PEC of what was asked and the bytes before it.
 fn sealed(asked: [u8; 8], bytes: &[u8], at: usize) -> ReplyForm
     requires { ⌜ (at ≤ 1) × (length (now bytes) ≡ at + 5) ⌝ }
     ensures { λ r. ⌜ r ≡ sealedOf asked (now (bytes .entry)) at ⌝ }

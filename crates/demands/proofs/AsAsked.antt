@@ -6,7 +6,8 @@ use Prim.Native.Nat.{ℕ}
 use native.Mathlib.Omega.{arith}
 use Rattle.summary.specs.declared.Summary.{Summary}
 use Rattle.bus.specs.declared.Request.{Request}
-use Rattle.bus.specs.Bus.{writeOf, wordBytes, pointTo, readData}
+use Rattle.bus.specs.Bus.{writeOf, wordBytes}
+use Rattle.guide.specs.Requests.{pointTo, readData, device}
 use Rattle.guide.specs.declared.Verdict.the-variants.{Done}
 use Rattle.guide.specs.Terms.{Terms}
 use Rattle.guide.specs.Judged.{cleared}
@@ -46,10 +47,10 @@ module _ (rest : Plan) (w : ℕ) where
   first2 = wrote (pointTo 0xA2 0x00) ∷ got readData w ∷ []
 
   abbrev third : Request
-  third = writeOf 0xC5 (wordBytes (cleared w))
+  third = writeOf device 0xC5 (wordBytes (cleared w))
 
   abbrev from4 : Plan
-  from4 = write (writeOf 0xE7 (0x02 ∷ 0x00 ∷ [])) rest
+  from4 = write (writeOf device 0xE7 (0x02 ∷ 0x00 ∷ [])) rest
 
   leads2 : Leads (step1 rest) first2 (write third from4)
   unfolding step1

@@ -9,7 +9,8 @@ use Rattle.summary.specs.declared.FileAnswer.{FileAnswer}
 use Rattle.summary.specs.declared.FileAnswer.the-variants.{Accepted, Refused}
 use Rattle.image.specs.Check.{checkOf}
 use Rattle.bus.specs.declared.Request.{Request}
-use Rattle.bus.specs.Bus.{eight, noRequest, pointTo}
+use Rattle.bus.specs.Bus.{eight, noRequest}
+use Rattle.guide.specs.Requests.{pointTo}
 use Rattle.guide.specs.declared.Verdict.{Verdict}
 use Rattle.guide.specs.declared.Verdict.the-variants.{Setting, File}
 use Rattle.session.specs.declared.Settings.{Settings}

@@ -2,7 +2,8 @@
 -- to and the burn itself stands where the flag's register is pointed to. So specs/Asked.antt says the requests word for word, and
 -- so does the headline. Assumes nothing.
 use mathlib.Core.List.{List, [], _∷_}
-use Rattle.bus.specs.Bus.{framed, writeOf, pointTo, readData, readBlock}
+use Rattle.bus.specs.Bus.{framed, writeOf}
+use Rattle.guide.specs.Requests.{pointTo, readData, readBlock, device}
 use Rattle.bus.specs.ReplyForm.{doneForm, formOf}
 use Rattle.guide.specs.declared.Words.{Words}
 use Rattle.guide.specs.Plan.{Reply}
@@ -11,7 +12,7 @@ use Rattle.guide.specs.Matched.{Exchange, wrote, got, Heard, none, more, heard2
 abbrev elsewhere : Words → List Exchange
 elsewhere read =
     wrote (pointTo 0x11 0x22) ∷ got readData (read .counter) ∷ got (readBlock 0xAD) (read .identity)
-    ∷ wrote (writeOf 0xE7 (0x08 ∷ 0x00 ∷ [])) ∷ got readData (read .flag) ∷ got (readBlock 0xAE) (read .revision) ∷ []
+    ∷ wrote (writeOf device 0xE7 (0x08 ∷ 0x00 ∷ [])) ∷ got readData (read .flag) ∷ got (readBlock 0xAE) (read .revision) ∷ []
 
 pub blind : (read : Words) (rs : List Reply) → Heard (heard2 read) rs → Heard (elsewhere read) rs
 unfolding formOf doneForm writeOf framed

@@ -17,7 +17,8 @@ use Rattle.bus.specs.declared.ReplyForm.{ReplyForm}
 use Rattle.bus.specs.declared.ReplyForm.the-variants.{Unanswered, Misshapen, Miscoded, Good}
 use Rattle.bus.specs.ReplyForm.{formOf}
 use Rattle.guide.specs.Plan.{Reply, fileLine, Asked, Plan, requests, bare}
-use Rattle.guide.specs.Guide.{hear, lineRequest, lines, linesAs}
+use Rattle.guide.specs.Guide.{hear, lines, linesAs}
+use Rattle.guide.specs.Requests.{lineRequest}
 use Rattle.guide.specs.Statements.{isBurnMark, burnsIn, beforeBurn, AllInForm}
 use Rattle.guide.specs.Statements as said
 use Rattle.guide.proofs.Through.{asked}

@@ -12,7 +12,8 @@ use Rattle.bus.specs.Bus.{eight, writeOf}
 use Rattle.bus.specs.InForm.{Made, write, register, block, Says, Means}
 use Rattle.bus.proofs.FormMeans.{form-means}
 use Rattle.guide.specs.Plan.{Reply, Asked, requests, bare}
-use Rattle.guide.specs.Guide.{lineRequest, writeLinesOf, guideFor}
+use Rattle.guide.specs.Guide.{writeLinesOf, guideFor}
+use Rattle.guide.specs.Requests.{lineRequest}
 use Rattle.guide.specs.Statements.{sameBytes, burnBytes, spellings, AllInForm}
 use Rattle.guide.specs.Statements as said
 use Rattle.guide.proofs.Every.{every-request, Other, point, word, identity, revision, set, command, load, guide-every}
@@ -62,9 +63,9 @@ module _ (T : Terms) (file : Summary) (text : List ℕ) (rs : List Reply) where
   other-made : (q : Request) → Other T file q → Made q
   unfolding writeOf
   other-made _ (point low high) = write _ _
-  other-made _ word = register
-  other-made _ identity = block _
-  other-made _ revision = block _
+  other-made _ word = register _
+  other-made _ identity = block _ _
+  other-made _ revision = block _ _
   other-made _ (set w) = write _ _
   other-made _ command = write _ _
   other-made _ (load N) = write _ _
@@ -73,5 +74,5 @@ module _ (T : Terms) (file : Summary) (text : List ℕ) (rs : List Reply) where
   Known q = Made (q .request)
 
   pub guide-made : (q : Asked) → List·Memᴰ q (requests (guideFor T file text) rs) → Made (q .request)
-  unfolding guideFor writeLinesOf lineRequest
+  unfolding guideFor writeLinesOf lineRequest writeOf
   guide-made q m = every-request {P = Known} (guide-every {P = Known} T file other-made _ (λ j h. write _ _)) rs q m

@@ -7,7 +7,8 @@ use Prim.Native.Nat.{ℕ, _<_}
 use native.Mathlib.Omega.{arith}
 use Rattle.summary.specs.declared.Summary.{Summary}
 use Rattle.image.specs.Meets.{Meets}
-use Rattle.bus.specs.Bus.{writeOf, pointTo, readData}
+use Rattle.bus.specs.Bus.{writeOf}
+use Rattle.guide.specs.Requests.{pointTo, readData}
 use Rattle.guide.specs.Plan.{Reply, Asked, requests}
 use Rattle.guide.specs.Guide.{crcIn, writeLinesOf, targetOf, guideFor}
 use Rattle.guide.specs.Matched.{Exchange, wrote, got, Heard, opening, Matched}
@@ -17,7 +18,7 @@ use Rattle.guide.proofs.Through.{answered, through, split-answered, leads-reque
 use Rattle.guide.proofs.DoneExactly.{leading, done-exactly}
 use Rattle.session.specs.declared.Settings.{Settings}
 use Rattle.demands.specs.Demands.{Premises, OfBytes, CanEnd, answerFor}
-use Rattle.demands.proofs.PremisesGive.{meets, kept, says, facts}
+use Rattle.demands.proofs.PremisesGive.{meets, says, facts}
 use Rattle.demands.proofs.Demand2.{demand2}
 use Rattle.demands.proofs.Demand3.{demand3}
 use Rattle.demands.proofs.FittingDevice.{counter-is, fitting, word-lt, fittingWords}

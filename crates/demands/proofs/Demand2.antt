@@ -8,7 +8,7 @@ use Rattle.session.specs.declared.Settings.{Settings}
 use Rattle.session.specs.Begin.{startOf, answeredOf, checkedOf, beginOf, newPosition, freshOf}
 use Rattle.demands.specs.Runs.{sent, after}
 use Rattle.demands.specs.Demands.{Premises, Demand2}
-use Rattle.demands.proofs.PremisesGive.{taken, kept, says, facts}
+use Rattle.demands.proofs.PremisesGive.{taken, lasting, facts}
 use Rattle.demands.proofs.SessionIsGuide.{Along, before, start-along, Room}
 use native.Mathlib.Omega.{arith}
 use Rattle.session.specs.Terms.{termsOf}
@@ -28,7 +28,7 @@ module _ {S : Settings} {text : List ℕ} {file : Summary} (P : Premises S text 
 
   -- before the first request
   abbrev pub first : Session
-  first = before text (writeLinesOf text) S file (kept P)
+  first = before text (writeLinesOf text) S file (lasting P)
 
   -- the bound is the guide's own
   room : Room text (writeLinesOf text) first (guideFor (termsOf S) file text)
@@ -37,7 +37,7 @@ module _ {S : Settings} {text : List ℕ} {file : Summary} (P : Premises S text 
 
   pub run : (rs : List Reply) → Along text (writeLinesOf text) first (startOf S file) (guideFor (termsOf S) file text) rs
   unfolding guideFor
-  run rs = start-along text (writeLinesOf text) S file (kept P) room rs
+  run rs = start-along text (writeLinesOf text) S file (lasting P) room rs
 
   module _ (rs : List Reply) where
     abbrev Holds : Handed → Type 0

@@ -14,7 +14,7 @@ use Rattle.session.specs.declared.Answer.the-variants.{BadState}
 use Rattle.session.specs.Begin.{newPosition, freshOf, startOf, beginOf}
 use Rattle.demands.specs.Runs.{sent, after}
 use Rattle.demands.specs.Demands.{Premises, Demand3, answerFor}
-use Rattle.demands.proofs.PremisesGive.{says, facts}
+use Rattle.demands.proofs.PremisesGive.{facts}
 use Rattle.demands.proofs.Demand2.{begin-is, run}
 use Rattle.session.specs.Terms.{termsOf}
 use Rattle.guide.specs.Guide.{guideFor}

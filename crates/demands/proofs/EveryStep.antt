@@ -15,7 +15,7 @@ use Rattle.line.specs.declared.NextLine as line
 use Rattle.line.specs.declared.NextLine.the-variants.{End, Took, Stopped}
 use Rattle.line.specs.Reading.{nextLine}
 use Rattle.summary.specs.Burn.{isBurn}
-use Rattle.bus.specs.Bus.{pointTo}
+use Rattle.guide.specs.Requests.{pointTo}
 use Rattle.bus.specs.declared.Request.{Request}
 use Rattle.guide.specs.declared.Verdict.{Verdict}
 use Rattle.guide.specs.declared.Reason.the-variants.{Program, Banks}

@@ -26,8 +26,8 @@ use Rattle.session.specs.declared.Stage.the-variants.{Open}
 use Rattle.session.specs.declared.Awaited.{Awaited}
 use Rattle.session.specs.Moves.{withStage, withPosition, withSent, putOf, endOf}
 use Rattle.session.specs.Reply.{followOf, repliedOf}
-use Rattle.demands.specs.Runs.{putOut, sent}
-use Rattle.demands.proofs.WhereItStands.{handOf, Kept, Bounds, At, Sim, running, finished}
+use Rattle.demands.specs.Runs.{putOut}
+use Rattle.demands.proofs.WhereItStands.{handOf, Lasting, Bounds, At, Sim, running, finished}
 use Rattle.demands.specs.Demands.{answerFor}
 
 -- the request that a plan puts out, none where it is done
@@ -76,7 +76,7 @@ module _ (text : List ℕ) (ls : List Line) where
 
   pub put-fits : (s t : Session) (g : Awaited) (m : Mark) (q : Request) (next : Reply → Plan)
       → t .settings ≡ s .settings → t .file ≡ s .file → t .sent ≡ s .sent → t .burned ≡ (s .burned || isBurnMark (4 + length ls) m) → 1 ≤ q .used
-      → At text ls (holding t g q) g (ask (asked m q) next) → Bounds text ls (holding t g q) → Kept text ls (t .settings) (t .file)
+      → At text ls (holding t g q) g (ask (asked m q) next) → Bounds text ls (holding t g q) → Lasting text ls (t .settings) (t .file)
       → Fits s (ask (asked m q) next) (putOf t g q)
   unfolding putOf withSent withStage rootOf handOf sizeOf burnOf verdict answerFor
   put-fits s t g m q next S f c b u a l K =
@@ -93,13 +93,13 @@ module _ (text : List ℕ) (ls : List Line) where
   -- a request that is no write line of the file, from a state that has moved so far
   pub moved-fits : (s : Session) (x : Position) (g : Awaited) (q : Request) (next : Reply → Plan) → 1 ≤ q .used
       → At text ls (holding (withPosition s x) g q) g (ask (asked other q) next) → Bounds text ls (holding (withPosition s x) g q)
-      → Kept text ls (s .settings) (s .file)
+      → Lasting text ls (s .settings) (s .file)
       → Fits s (ask (asked other q) next) (putOf (withPosition s x) g q)
   unfolding withPosition isBurnMark
   moved-fits s x g q next u a l K = put-fits s (withPosition s x) g other q next refl refl refl (sym (or-false (s .burned))) u a l K
 
   pub other-fits : (s : Session) (g : Awaited) (q : Request) (next : Reply → Plan) → 1 ≤ q .used
-      → At text ls (holding s g q) g (ask (asked other q) next) → Bounds text ls (holding s g q) → Kept text ls (s .settings) (s .file)
+      → At text ls (holding s g q) g (ask (asked other q) next) → Bounds text ls (holding s g q) → Lasting text ls (s .settings) (s .file)
       → Fits s (ask (asked other q) next) (putOf s g q)
   unfolding isBurnMark
   other-fits s g q next u a l K = put-fits s s g other q next refl refl refl (sym (or-false (s .burned))) u a l K

@@ -7,13 +7,15 @@ use native.Mathlib.Omega.{arith}
 use borrow.Author.Tests.{lt-ltb, le-leb}
 use Rattle.line.specs.declared.Line.{Line}
 use Rattle.bus.specs.declared.Request.{Request}
-use Rattle.bus.specs.Bus.{framed, writeOf, readOf, noRequest, pointTo}
+use Rattle.bus.specs.Bus.{framed, writeOf, readOf, noRequest}
+use Rattle.guide.specs.Requests.{pointTo}
 use Rattle.bus.specs.ReplyForm.{formOf}
 use Rattle.guide.specs.declared.Reason.the-variants.{Banks}
 use Rattle.guide.specs.declared.Verdict.the-variants.{Halted}
 use Rattle.guide.specs.Judged.{polledOf, banksRight}
 use Rattle.guide.specs.Plan.{Reply, Plan, ask, done, verdict}
-use Rattle.guide.specs.Guide.{hear, lineRequest, polls}
+use Rattle.guide.specs.Guide.{hear, polls}
+use Rattle.guide.specs.Requests.{lineRequest}
 use Rattle.session.specs.declared.Session.{Session}
 use Rattle.session.specs.declared.Stage.{Stage}
 use Rattle.session.specs.declared.Awaited.{Awaited}
@@ -22,9 +24,9 @@ use Rattle.session.specs.Moves.{withStage, withPosition, withSent, overOf}
 use Rattle.session.specs.Sound.{all, mostSent, heldTests, heldSound, stateTests, soundOf}
 use Rattle.session.specs.Stages.{atRead, withCounter, withIdentity, withFlag, withRevision, counterDoneOf, identityDoneOf, flagDoneOf, fitHeld, revisionDoneOf, statusDoneOf, banksDoneOf}
 use Rattle.session.specs.Reply.{followOf, repliedOf, stageOf, replyOf}
-use Rattle.demands.specs.Runs.{putOut, sent}
+use Rattle.demands.specs.Runs.{putOut}
 use Rattle.demands.proofs.RestOfGuide
-use Rattle.demands.proofs.WhereItStands.{handOf, Kept, Bounds, line, config, At, capture-at, capture-read, capture-write, capture-apply, counter-at, counter-read, identity-read, flag-at, flag-read, revision-read, line-out, status-at, status-read, banks-at, banks-read, restore, crc-at, crc-read, Sim, running, finished}
+use Rattle.demands.proofs.WhereItStands.{handOf, Lasting, Bounds, line, config, At, capture-at, capture-read, capture-write, capture-apply, counter-at, counter-read, identity-read, flag-at, flag-read, revision-read, line-out, status-at, status-read, banks-at, banks-read, restore, crc-at, crc-read, Sim, running, finished}
 use Rattle.demands.proofs.FitsCall.{rootOf, sizeOf, burnOf, Fits, end-fits, hear-fits, moved-fits, other-fits, cond-fits}
 use Rattle.demands.proofs.FitsStep3.{next-line-fits, gate-fits}
 use Rattle.demands.proofs.FitsSteps4to6.{polled-fits, first-restore-fits, crc-fits}
@@ -37,7 +39,7 @@ onward (ask q next) r = next r
 onward (done v) r = done v
 
 module _ (text : List ℕ) (ls : List Line) (s : Session) where
-  step-fits : {g : Awaited} {p : Plan} → At text ls s g p → Bounds text ls s → Kept text ls (s .settings) (s .file) → (r : Reply)
+  step-fits : {g : Awaited} {p : Plan} → At text ls s g p → Bounds text ls s → Lasting text ls (s .settings) (s .file) → (r : Reply)
       → Fits text ls s (onward p r) (repliedOf text s g (formOf (handOf p) (r .kind) (r .bytes)))
   unfolding onward handOf followOf writeOf readOf framed withStage withPosition withSent RestOfGuide.captureAt RestOfGuide.captureRead RestOfGuide.captureWrite RestOfGuide.captureApply RestOfGuide.counterAt RestOfGuide.counterRead RestOfGuide.identityRead RestOfGuide.flagAt RestOfGuide.flagRead RestOfGuide.revisionRead RestOfGuide.lineOut RestOfGuide.statusAt RestOfGuide.statusRead RestOfGuide.banksAt RestOfGuide.banksRead RestOfGuide.restore RestOfGuide.crcAt RestOfGuide.crcRead polls lineRequest counterDoneOf identityDoneOf flagDoneOf fitHeld revisionDoneOf statusDoneOf banksDoneOf atRead withCounter withIdentity withFlag withRevision
   step-fits (capture-at f) b K r =
@@ -103,7 +105,7 @@ module _ (text : List ℕ) (ls : List Line) (s : Session) where
   step-fits (crc-read left e) b K r = hear-fits text ls s CrcRead _ _ λ w. crc-fits text ls s K b left w e
 
   -- 15 lets such a state pass
-  sound-true : Bounds text ls s → s .sent ≤ mostSent s → Kept text ls (s .settings) (s .file) → soundOf s ≡ true
+  sound-true : Bounds text ls s → s .sent ≤ mostSent s → Lasting text ls (s .settings) (s .file) → soundOf s ≡ true
   unfolding soundOf stateTests heldSound heldTests mostSent all
   sound-true b n K =
       rw (

@@ -20,11 +20,11 @@ use Rattle.session.specs.declared.Awaited.the-variants.{StatusRead, BanksAt, Re
 use Rattle.session.specs.Moves.{withStage, withPosition, withSent}
 use Rattle.session.specs.Stages.{atPolls, atConfig, pollAgainOf, polledDoneOf, restoreOf, restoreNextOf, crcDoneOf}
 use Rattle.demands.proofs.RestOfGuide
-use Rattle.demands.proofs.WhereItStands.{Kept, Bounds, config, status-read, banks-at, restore}
+use Rattle.demands.proofs.WhereItStands.{Lasting, Bounds, config, status-read, banks-at, restore}
 use Rattle.demands.proofs.FitsCall.{Fits, end-fits, moved-fits, other-fits, cond-fits}
 use Rattle.session.specs.Terms.{termsOf}
 
-module _ (text : List ℕ) (ls : List Line) (s : Session) (K : Kept text ls (s .settings) (s .file)) where
+module _ (text : List ℕ) (ls : List Line) (s : Session) (K : Lasting text ls (s .settings) (s .file)) where
   -- ---- step 4
 
   module _ (c : config text ls s ≡ 0) (b : Bounds text ls s) where

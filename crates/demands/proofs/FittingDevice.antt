@@ -18,7 +18,6 @@ use Rattle.image.proofs.LinesAndBytes.{spells-at}
 use Rattle.guide.specs.Matched.{Fits}
 use Rattle.guide.specs.declared.Words.{Words}
 use Rattle.guide.specs.Guide.{targetOf}
-use Rattle.demands.proofs.PremisesGive.{kept}
 
 -- ---- a device that the file fits
 

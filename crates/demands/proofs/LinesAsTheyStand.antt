@@ -2,11 +2,11 @@
 use mathlib.Core.Path.{_≡_, refl, ap, _∙_}
 use mathlib.Core.Logic.{inl, inr}
 use mathlib.Core.Bool.{true, false}
-use mathlib.Core.List.{List, [], _∷_}
-use Prim.Native.Nat.{ℕ, _-_, _≤_}
+use mathlib.Core.List.{List, [], _∷_, _++_}
+use Prim.Native.Nat.{ℕ, _-_, _≤_, _+_}
 use native.Mathlib.Omega.{arith}
 use lib.Dec.{eqb}
-use lib.ListN.{length, drop, getD, length-take}
+use lib.ListN.{length, drop, getD, length-take, length-append}
 use borrow.Author.Tests.{eqb-true}
 use Rattle.line.specs.Reading.{lineOf}
 use Rattle.line.specs.LineForm.{Row, identity, revision, third, fourth, two, four, LineForm}
@@ -14,11 +14,13 @@ use Rattle.promise.proofs.Basics.{and-true}
 use Rattle.line.proofs.GoodExactly.{form-length}
 use Rattle.image.specs.Meets.{BurnBytes}
 use Rattle.bus.specs.declared.Request.{Request}
-use Rattle.bus.specs.Bus.{eight, framed}
-use Rattle.guide.specs.Guide.{lineData, lineRequest}
+use Rattle.bus.specs.Bus.{eight, framed, writeOf}
+use Rattle.guide.specs.Requests.{lineData, lineRequest}
 use Rattle.guide.specs.Statements.{sameBytes, burnBytes}
 use Rattle.guide.proofs.LineBytes.{line-spelt}
 use Rattle.demands.specs.Headline.{asItStands, burn}
+use Rattle.pec.specs.Pec.{pec}
+use Rattle.demands.specs.Asked.{LineIsWrite}
 
 pub same-bytes : (a b : List ℕ) → sameBytes a b ≡ true → a ≡ b
 unfolding sameBytes
@@ -46,11 +48,11 @@ writes bs used = record { bytes = bs; used = used; reads = false }
 
 module _ (n : ℕ) (v : List ℕ) (h : 5 ≤ n) (f : LineForm n v) where
   used-is : lineRequest (lineOf v) .used ≡ length v - 2
-  unfolding lineRequest lineData framed lineOf
+  unfolding lineRequest lineData writeOf framed lineOf
   used-is = simp length-take (omega (arith, form-length f, counted (f .row) h .0))
 
   pub line-stands : lineRequest (lineOf v) ≡ asItStands v
-  unfolding lineRequest framed
+  unfolding lineRequest writeOf framed
   line-stands =
       ap (λ (bs : List ℕ). writes bs (lineRequest (lineOf v) .used)) (line-spelt n v h f .own)
       ∙ ap (λ (u : ℕ). writes (eight (drop 2 v)) u) used-is
@@ -63,3 +65,12 @@ module _ (n : ℕ) (v : List ℕ) (h : 5 ≤ n) (f : LineForm n v) where
       let u : length v - 2 ≡ 5 = omega (arith, form-length f, counted (f .row) h .1 c) in
       let s : eight (drop 2 v) ≡ eight burnBytes = same-bytes _ _ (line-spelt n v h f .burn b) in
       ap (λ (bs : List ℕ). writes bs (length v - 2)) s ∙ ap (λ (k : ℕ). writes (eight burnBytes) k) u
+
+-- its last byte is the PEC that a write has
+pub line-is-write : (n : ℕ) (v : List ℕ) (f : LineForm n v) → LineIsWrite n v f
+unfolding LineIsWrite writeOf framed
+line-is-write n v f =
+    let w : List ℕ = 0xC0 ∷ f .command ∷ (f .content ++ (pec (0xC0 ∷ f .command ∷ f .content) ∷ [])) in
+    let sized : length (f .content ++ (pec (0xC0 ∷ f .command ∷ f .content) ∷ [])) ≡ length (f .content) + 1 = simp length-append (omega arith) in
+    let used : length (f .tag ∷ (3 + length (f .content)) ∷ w) - 2 ≡ length (0xC0 ∷ f .command ∷ f .content) + 1 = omega (arith, sized) in
+    ap (λ (x : List ℕ). asItStands x) (f .bytes) ∙ ap (λ (u : ℕ). writes (eight w) u) used

@@ -26,7 +26,7 @@ use Rattle.guide.proofs.OfText.{meets-facts}
 use Rattle.session.specs.declared.Settings.{Settings}
 use Rattle.session.specs.Sound.{all, idsSound, fileTests, fileSound}
 use Rattle.demands.specs.Demands.{Premises}
-use Rattle.demands.proofs.WhereItStands.{Kept}
+use Rattle.demands.proofs.WhereItStands.{Lasting}
 use Rattle.demands.proofs.SettingsSay.{is-allowed}
 use Rattle.image.proofs.SummarySays.{summary-says}
 use Rattle.summary.specs.declared.Summary.{Summary}
@@ -76,9 +76,9 @@ module _ {S : Settings} {text : List ℕ} {file : Summary} (P : Premises S text 
   pub facts : FileFacts file text
   facts = rw (P .summary) (meets-facts text meets)
 
-  pub kept : Kept text (writeLinesOf text) S file
+  pub lasting : Lasting text (writeLinesOf text) S file
   unfolding writeLinesOf
-  kept =
+  lasting =
       let ls : drop 4 (saysOf (linesOf text)) ≡ writeLinesOf text = says-drop 4 (linesOf text) in
       let f : Sound file = rw (P .summary) (sound text taken) in
       let told : checkOf text .summary ≡ summaryOf text = summary-is text (sym (answer-is text) ∙ taken) in

@@ -10,12 +10,14 @@ use Rattle.pec.proofs.Laws.{pec-lt}
 use Rattle.line.specs.declared.Line.{Line}
 use Rattle.summary.specs.declared.Summary.{Summary}
 use Rattle.bus.specs.declared.ReplyForm.the-variants.{Good}
-use Rattle.bus.specs.Bus.{framed, writeOf, readData, readBlock}
+use Rattle.bus.specs.Bus.{framed, writeOf}
+use Rattle.guide.specs.Requests.{readData, readBlock, device}
 use Rattle.bus.specs.ReplyForm.{formOf}
 use Rattle.bus.specs.InForm.{write, register, block, registerPec, blockPec, wrote as wroteBytes, registerRead, blockRead, Says, Means}
 use Rattle.bus.proofs.FormMeans.{form-means}
 use Rattle.guide.specs.Plan.{Reply}
-use Rattle.guide.specs.Guide.{lineRequest, crcIn}
+use Rattle.guide.specs.Guide.{crcIn}
+use Rattle.guide.specs.Requests.{lineRequest}
 use Rattle.guide.specs.Matched.{Exchange, wrote, got, Heard, none, more, opening}
 use Rattle.guide.specs.Statements.{heard3, heard6}
 use Rattle.demands.specs.Demands.{OfBytes}
@@ -89,16 +91,16 @@ module _ (w : ℕ) (h : w < 4294967296) where
   pub can-read : Can (got readData w)
   unfolding Means Says
   can-read = (
-    done (a ∷ b ∷ c ∷ d ∷ registerPec a b c d ∷ []),
-    form-means register 1 _ (Good _) .1 (registerRead a b c d) ∙ ap Good (omega arith),
+    done (a ∷ b ∷ c ∷ d ∷ registerPec device a b c d ∷ []),
+    form-means (register device) 1 _ (Good _) .1 (registerRead device a b c d) ∙ ap Good (omega arith),
     of-bytes (word-bytes _ (pec-lt _)),
   )
 
   pub can-block : (command : ℕ) → Can (got (readBlock command) w)
   unfolding Means Says
   can-block command = (
-    done (4 ∷ a ∷ b ∷ c ∷ d ∷ blockPec command a b c d ∷ []),
-    form-means (block command) 1 _ (Good _) .1 (blockRead command a b c d) ∙ ap Good (omega arith),
+    done (4 ∷ a ∷ b ∷ c ∷ d ∷ blockPec device command a b c d ∷ []),
+    form-means (block device command) 1 _ (Good _) .1 (blockRead device command a b c d) ∙ ap Good (omega arith),
     of-bytes (byte 4 (omega arith) (word-bytes _ (pec-lt _))),
   )
 
@@ -120,7 +122,7 @@ able-opening wanted read e f g h = by wanted
     by false = step2
 
 pub able-lines : (ls : List Line) → Able (heard3 ls)
-unfolding heard3 lineRequest
+unfolding heard3 lineRequest writeOf
 able-lines [] = end
 able-lines (l ∷ ls) = and (can-write _ _) (able-lines ls)
 

@@ -8,12 +8,14 @@ use lib.Dec.{eqb}
 use Rattle.counts.specs.Counts.{configNumber}
 use Rattle.line.specs.declared.Line.{Line}
 use Rattle.summary.specs.declared.Summary.{Summary}
-use Rattle.bus.specs.Bus.{writeOf, wordBytes, pointTo, readData, readBlock}
+use Rattle.bus.specs.Bus.{writeOf, wordBytes}
+use Rattle.guide.specs.Requests.{pointTo, readData, readBlock, device}
 use Rattle.guide.specs.declared.Reason.the-variants.{Banks}
 use Rattle.guide.specs.declared.Verdict.the-variants.{Mismatch, Halted}
 use Rattle.guide.specs.Plan.{Plan, done, fileLine}
 use Rattle.guide.specs.Judged.{cleared, fitOf, banksRight}
-use Rattle.guide.specs.Guide.{put, write, read, step1, gate, step2, lineRequest, lines, polls, step4, step5, idIn, crcIn, verify, step6, guide, targetOf}
+use Rattle.guide.specs.Guide.{put, write, read, step1, gate, step2, lines, polls, step4, step5, idIn, crcIn, verify, step6, guide, targetOf}
+use Rattle.guide.specs.Requests.{lineRequest}
 use Rattle.guide.specs.Terms.{Terms}
 
 module _ (T : Terms) (file : Summary) (ls : List Line) where
@@ -26,7 +28,7 @@ module _ (T : Terms) (file : Summary) (ls : List Line) where
   crcAt left N = write (pointTo 0x94 0x00) (crcRead left N)
 
   unfoldable pub restore : ℕ → ℕ → Plan
-  restore left N = write (writeOf (T .restore) (idIn file N ∷ [])) (crcAt left N)
+  restore left N = write (writeOf device (T .restore) (idIn file N ∷ [])) (crcAt left N)
 
   -- step 5
   unfoldable pub banksRead : Plan
@@ -72,10 +74,10 @@ module _ (T : Terms) (file : Summary) (ls : List Line) where
 
   -- step 1
   unfoldable pub captureApply : Plan
-  captureApply = write (writeOf 0xE7 (0x02 ∷ 0x00 ∷ [])) counterAt
+  captureApply = write (writeOf device 0xE7 (0x02 ∷ 0x00 ∷ [])) counterAt
 
   unfoldable pub captureWrite : ℕ → Plan
-  captureWrite w = write (writeOf 0xC5 (wordBytes (cleared w))) captureApply
+  captureWrite w = write (writeOf device 0xC5 (wordBytes (cleared w))) captureApply
 
   unfoldable pub captureRead : Plan
   captureRead = read readData λ w. captureWrite w

@@ -25,7 +25,7 @@ use Rattle.session.specs.Begin.{newPosition, freshOf, firstOf, startOf}
 use Rattle.session.specs.Reply.{replyOf}
 use Rattle.demands.specs.Runs.{sent, after}
 use Rattle.demands.proofs.RestOfGuide
-use Rattle.demands.proofs.WhereItStands.{Kept, capture-at, counter-at}
+use Rattle.demands.proofs.WhereItStands.{Lasting, capture-at, counter-at}
 use Rattle.demands.proofs.FitsCall.{rootOf, sizeOf, burnOf, Fits, other-fits, cond-fits}
 use Rattle.demands.proofs.FitsReply.{onward, reply-fits}
 use Rattle.session.specs.Terms.{termsOf}
@@ -92,7 +92,7 @@ module _ (text : List ℕ) (ls : List Line) where
         burning = a .burning ∙ (or-false _ ∙ f .burning);
       }
 
-  module _ (S : Settings) (file : Summary) (K : Kept text ls S file) where
+  module _ (S : Settings) (file : Summary) (K : Lasting text ls S file) where
     -- before the first request
     abbrev pub before : Session
     before = freshOf S file (Open CaptureAt) (newPosition firstLine (file .line5))

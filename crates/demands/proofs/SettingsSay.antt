@@ -1,12 +1,12 @@
 -- The settings that are allowed, by their values; and a refused start puts nothing out, whatever follows. Assumes nothing.
-use mathlib.Core.Path.{_≡_, refl}
+use mathlib.Core.Path.{_≡_, refl, sym, _∙_}
 use mathlib.Core.Bool.{true, false, not, true≢false}
-use mathlib.Core.List.{List, [], _∷_, List·Memᴰ, List·Memᴰ·head, List·Memᴰ·tail}
+use mathlib.Core.List.{List, [], _∷_}
 use Prim.Native.Nat.{ℕ}
 use lib.Dec.{leb}
-use borrow.Author.Tests.{leb-true, not-true, ne-eqb, le-leb}
-use Rattle.promise.proofs.Basics.{and-true}
-use Rattle.bus.specs.Bus.{noRequest, reserved}
+use borrow.Author.Tests.{leb-true, not-true, le-leb}
+use Rattle.promise.proofs.Basics.{and-true, split}
+use Rattle.bus.specs.Bus.{noRequest, reserved, codes}
 use Rattle.guide.specs.declared.Verdict.{Verdict}
 use Rattle.guide.specs.Plan.{Reply}
 use Rattle.session.specs.declared.Settings.{Settings}
@@ -17,31 +17,8 @@ use Rattle.session.specs.Reply.{stageOf, replyOf}
 use Rattle.demands.specs.Runs.{putOut, sent}
 use Rattle.demands.specs.Headline.{Allowed}
 use Rattle.session.specs.Terms.{termsOf}
-
-abbrev codes : List ℕ
-codes = 0xC5 ∷ 0xC6 ∷ 0xC7 ∷ 0xE7 ∷ 0xAD ∷ 0xAE ∷ []
-
-reserved-codes : (c : ℕ) → List·Memᴰ c codes → reserved c ≡ true
-unfolding reserved
-reserved-codes c (List·Memᴰ·head e) = rw e
-reserved-codes c (List·Memᴰ·tail (List·Memᴰ·head e)) = rw e
-reserved-codes c (List·Memᴰ·tail (List·Memᴰ·tail (List·Memᴰ·head e))) = rw e
-reserved-codes c (List·Memᴰ·tail (List·Memᴰ·tail (List·Memᴰ·tail (List·Memᴰ·head e)))) = rw e
-reserved-codes c (List·Memᴰ·tail (List·Memᴰ·tail (List·Memᴰ·tail (List·Memᴰ·tail (List·Memᴰ·head e))))) = rw e
-reserved-codes c (List·Memᴰ·tail (List·Memᴰ·tail (List·Memᴰ·tail (List·Memᴰ·tail (List·Memᴰ·tail (List·Memᴰ·head e)))))) = rw e
-
--- a code that is none of them
-no-code : (c : ℕ) → (List·Memᴰ c codes → ⊥) → reserved c ≡ false
-unfolding reserved
-no-code c f =
-    rw (
-      ne-eqb c 0xC5 (λ e. f (List·Memᴰ·head e)),
-      ne-eqb c 0xC6 (λ e. f (List·Memᴰ·tail (List·Memᴰ·head e))),
-      ne-eqb c 0xC7 (λ e. f (List·Memᴰ·tail (List·Memᴰ·tail (List·Memᴰ·head e)))),
-      ne-eqb c 0xE7 (λ e. f (List·Memᴰ·tail (List·Memᴰ·tail (List·Memᴰ·tail (List·Memᴰ·head e))))),
-      ne-eqb c 0xAD (λ e. f (List·Memᴰ·tail (List·Memᴰ·tail (List·Memᴰ·tail (List·Memᴰ·tail (List·Memᴰ·head e)))))),
-      ne-eqb c 0xAE (λ e. f (List·Memᴰ·tail (List·Memᴰ·tail (List·Memᴰ·tail (List·Memᴰ·tail (List·Memᴰ·tail (List·Memᴰ·head e))))))),
-    )
+use Rattle.promise.specs.Lists.{isIn}
+use Rattle.promise.proofs.Members.{in-list, list-in}
 
 module _ (S : Settings) (e : allowedOf S ≡ true) where
   tests : (leb 1 (S .limit) ≡ true) × (leb (S .limit) 10000 ≡ true) × (reserved (S .restore) ≡ false)
@@ -52,16 +29,18 @@ module _ (S : Settings) (e : allowedOf S ≡ true) where
       (p .0, q .0, not-true _ (and-true (not (reserved (S .restore))) true (q .1) .0))
 
   pub allowed-is : Allowed (termsOf S)
+  unfolding reserved
   allowed-is =
       record {
         some = leb-true 1 (S .limit) (tests .0);
         few = leb-true (S .limit) 10000 (tests .1);
-        code = λ m. let x = reserved-codes (S .restore) m in true≢false (rw x at (tests .2));
+        code = λ m. true≢false (sym (list-in m) ∙ tests .2);
       }
 
 module _ (S : Settings) (a : Allowed (termsOf S)) where
   pub not-reserved : reserved (S .restore) ≡ false
-  not-reserved = no-code (S .restore) (a .code)
+  unfolding reserved
+  not-reserved = split (isIn (S .restore) codes) (λ e. absurd (a .code (in-list (S .restore) codes e))) (λ e. e)
 
   pub is-allowed : allowedOf S ≡ true
   unfolding allowedOf settingTests all

@@ -29,7 +29,7 @@ handOf (done v) = noRequest
 
 module _ (text : List ℕ) (ls : List Line) where
   -- what an accepted file and allowed settings leave known, which no reply changes
-  pub record Kept (S : Settings) (file : Summary) : Type 0 where
+  pub record Lasting (S : Settings) (file : Summary) : Type 0 where
     pub allowed : allowedOf S ≡ true
     pub sound : fileSound file ≡ true
     pub somePoll : 1 ≤ S .limit
@@ -90,5 +90,5 @@ module _ (text : List ℕ) (ls : List Line) where
       crc-read : (left : ℕ) → config + suc left ≡ F .configs → At CrcRead (RestOfGuide.crcRead (termsOf G) F ls left config)
 
     pub data Sim : Stage → Plan → Type 0 where
-      running : {g : Awaited} {p : Plan} → verdict p [] ≡ waiting → s .hand ≡ handOf p → At g p → Bounds s → Kept G F → Sim (Open g) p
+      running : {g : Awaited} {p : Plan} → verdict p [] ≡ waiting → s .hand ≡ handOf p → At g p → Bounds s → Lasting G F → Sim (Open g) p
       finished : {v : Verdict} → Sim (Ended v) (done v)

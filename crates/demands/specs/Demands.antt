@@ -22,7 +22,7 @@ use Rattle.session.specs.declared.Answer.the-variants.{Next, Over, BadState}
 use Rattle.session.specs.Terms.{termsOf}
 use Rattle.session.specs.Begin.{beginOf}
 use Rattle.demands.specs.Headline.{Allowed}
-use Rattle.demands.specs.Runs.{after, sent}
+use Rattle.demands.specs.Runs.{after}
 
 -- the only hypotheses: the checker's number of this text is 0, this is the summary that it hands back with it, and the settings are
 -- allowed

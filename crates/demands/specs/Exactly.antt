@@ -2,7 +2,7 @@
 -- without the tests of Sound.antt. No promise cites this page: proofs/ shows each of these. Assumes nothing.
 use Prim.Native.Nat.{ℕ, _+_, _*_, _≤_, _<_}
 use mathlib.Core.Path.{_≡_}
-use mathlib.Core.List.{List, [], _∷_}
+use mathlib.Core.List.{List, [], _∷_, List·Memᴰ}
 use mathlib.Core.Bool.{true, false}
 use lib.ListN.{getD}
 use Rattle.counts.specs.declared.LineNumber.{LineNumber}
@@ -15,6 +15,7 @@ use Rattle.image.specs.Check.{checkOf}
 use Rattle.summary.specs.Answers.{answerTold, plain}
 use Rattle.summary.specs.Burn.{isBurn}
 use Rattle.bus.specs.declared.Request.{Request}
+use Rattle.bus.specs.Bus.{codes}
 use Rattle.bus.specs.ReplyForm.{formOf}
 use Rattle.bus.specs.declared.ReplyForm.the-variants.{Good}
 use Rattle.guide.specs.declared.Verdict.{Verdict}
@@ -40,19 +41,10 @@ zeros = record { bytes = 0x00 ∷ 0x00 ∷ 0x00 ∷ 0x00 ∷ 0x00 ∷ 0x00 ∷ 0
 
 -- ---- settings
 
--- the commands that RESTORE_CFG may not be
-pub data OtherCommand : ℕ → Type 0 where
-  c5 : OtherCommand 0xC5
-  c6 : OtherCommand 0xC6
-  c7 : OtherCommand 0xC7
-  e7 : OtherCommand 0xE7
-  ad : OtherCommand 0xAD
-  ae : OtherCommand 0xAE
-
--- a setting that is out of its range
+-- a setting that is out of its range, or a code of the guide's other commands
 pub data SettingOut (S : Settings) : Type 0 where
   limit : ((1 ≤ S .limit) × (S .limit ≤ 10000) → ⊥) → SettingOut S
-  restore : OtherCommand (S .restore) → SettingOut S
+  restore : List·Memᴰ (S .restore) codes → SettingOut S
 
 -- ---- 15, before the reply is looked at
 

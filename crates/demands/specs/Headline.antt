@@ -8,7 +8,7 @@ use lib.ListN.{length, drop}
 use Rattle.image.specs.Says.{word}
 use Rattle.image.specs.Meets.{dataIn, numbered, Meets}
 use Rattle.bus.specs.declared.Request.{Request}
-use Rattle.bus.specs.Bus.{eight}
+use Rattle.bus.specs.Bus.{eight, codes}
 use Rattle.bus.specs.InForm.{InForm}
 use Rattle.guide.specs.declared.Target.{Target}
 use Rattle.guide.specs.Terms.{Terms}
@@ -37,7 +37,7 @@ pub data Answered : List Request → List Reply → Type 0 where
 pub record Allowed (T : Terms) : Type 0 where
   pub some : 1 ≤ T .limit
   pub few : T .limit ≤ 10000
-  pub code : List·Memᴰ (T .restore) (0xC5 ∷ 0xC6 ∷ 0xC7 ∷ 0xE7 ∷ 0xAD ∷ 0xAE ∷ []) → ⊥
+  pub code : List·Memᴰ (T .restore) codes → ⊥
 
 -- what a file asks of its device: the kind that its revision names, the identity of line 1, and a place for each configuration
 abbrev pub targetIn : {text : List ℕ} → Meets text → Target

@@ -14,7 +14,8 @@ use Rattle.bus.specs.declared.ReplyForm.{ReplyForm}
 use Rattle.bus.specs.declared.ReplyForm.the-variants.{Unanswered, Misshapen, Miscoded, Good}
 use Rattle.bus.specs.ReplyForm.{formOf}
 use Rattle.guide.specs.Plan.{Reply, Mark, other, fileLine, Asked, Plan, requests}
-use Rattle.guide.specs.Guide.{hear, put, lineRequest, lines}
+use Rattle.guide.specs.Requests.{lineRequest}
+use Rattle.guide.specs.Guide.{hear, put, lines}
 use Rattle.guide.specs.Statements.{isLine, linesIn, isBurnMark, burnsIn, beforeBurn, AllInForm, none, more}
 use Rattle.guide.proofs.Every.{Every, asks, ends, behind, behind-every}
 use Rattle.guide.specs.Terms.{Terms}

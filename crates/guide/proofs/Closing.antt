@@ -12,14 +12,15 @@ use Rattle.counts.specs.Counts.{configNumber}
 use Rattle.line.specs.declared.Line.{Line}
 use Rattle.promise.proofs.Basics.{split}
 use Rattle.summary.specs.declared.Summary.{Summary}
-use Rattle.bus.specs.Bus.{framed, writeOf, pointTo, readData}
+use Rattle.bus.specs.Bus.{framed, writeOf}
 use Rattle.guide.specs.declared.Verdict.{Verdict}
 use Rattle.guide.specs.declared.Verdict.the-variants.{Done, Mismatch, Halted}
 use Rattle.guide.specs.declared.Reason.the-variants.{Program, Banks}
 use Rattle.guide.specs.declared.Polled.the-variants.{Busy}
 use Rattle.guide.specs.Judged.{banksRight}
 use Rattle.guide.specs.Plan.{Reply, Mark, other, fileLine, Plan, done, ended, verdict}
-use Rattle.guide.specs.Guide.{lineRequest, lines, polled, polls, step4, step5, crcIn, verify}
+use Rattle.guide.specs.Requests.{pointTo, readData, lineRequest}
+use Rattle.guide.specs.Guide.{lines, polled, polls, step4, step5, crcIn, verify}
 use Rattle.guide.specs.Statements.{heard3, heard4, heard6}
 use Rattle.guide.proofs.Through.{Came, Through, here, then}
 use Rattle.guide.proofs.Statuses.{Clear, clear-more, busy-is, passed-is, failed-is}
@@ -45,7 +46,7 @@ module _ {C : Type 0} where
   pub lines-way : (i : ℕ) (ls : List Line) (rest : Plan) (rs : List Reply)
       → ((last : List Reply) → Through (heard3 ls) rs last → NotDone rest last ⊎ C)
       → NotDone (lines i ls rest) rs ⊎ C
-  unfolding lines heard3 lineRequest framed
+  unfolding lines heard3 lineRequest writeOf framed
   lines-way i [] rest rs go = go rs here
   lines-way i (l ∷ ls) rest rs go =
       bind-write (not-done-keeps (fileLine i)) _ _ rs refl λ r c. lines-way (i + 1) ls rest r λ last t. go last (then c t)

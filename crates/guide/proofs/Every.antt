@@ -14,7 +14,7 @@ use Rattle.summary.specs.declared.Summary.{Summary}
 use Rattle.bus.specs.declared.Request.{Request}
 use Rattle.bus.specs.declared.ReplyForm.{ReplyForm}
 use Rattle.bus.specs.declared.ReplyForm.the-variants.{Unanswered, Misshapen, Miscoded, Good}
-use Rattle.bus.specs.Bus.{writeOf, wordBytes, pointTo, readData, readBlock}
+use Rattle.bus.specs.Bus.{writeOf, wordBytes}
 use Rattle.bus.specs.ReplyForm.{formOf}
 use Rattle.guide.specs.declared.Verdict.{Verdict}
 use Rattle.guide.specs.declared.Fit.{Fit}
@@ -23,6 +23,7 @@ use Rattle.guide.specs.declared.Polled.{Polled}
 use Rattle.guide.specs.declared.Polled.the-variants.{Busy, Passed, Failed}
 use Rattle.guide.specs.Judged.{polledOf, banksRight}
 use Rattle.guide.specs.Plan.{Reply, Mark, other, Asked, Plan, ask, done, requests}
+use Rattle.guide.specs.Requests.{device, pointTo, readData, readBlock}
 use Rattle.guide.specs.Guide.{hear, put, gate, step1, step2, lines, linesAs, polled, polls, step4, step5, idIn, crcIn, verify, step6, guide}
 use Rattle.guide.specs.Statements.{lineAsked}
 use Rattle.guide.proofs.Through.{asked}
@@ -56,9 +57,9 @@ pub data Other (T : Terms) (file : Summary) : Request → Type 0 where
   word : Other T file readData
   identity : Other T file (readBlock 0xAD)
   revision : Other T file (readBlock 0xAE)
-  set : (w : ℕ) → Other T file (writeOf 0xC5 (wordBytes w))
-  command : Other T file (writeOf 0xE7 (0x02 ∷ 0x00 ∷ []))
-  load : (N : ℕ) → Other T file (writeOf (T .restore) (idIn file N ∷ []))
+  set : (w : ℕ) → Other T file (writeOf device 0xC5 (wordBytes w))
+  command : Other T file (writeOf device 0xE7 (0x02 ∷ 0x00 ∷ []))
+  load : (N : ℕ) → Other T file (writeOf device (T .restore) (idIn file N ∷ []))
 
 -- a plan that is over asks nothing
 ruleset over = ends

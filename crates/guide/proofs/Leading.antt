@@ -10,7 +10,7 @@ use borrow.Author.Tests.{eq-eqb}
 use Rattle.counts.specs.Counts.{configNumber}
 use Rattle.line.specs.declared.Line.{Line}
 use Rattle.summary.specs.declared.Summary.{Summary}
-use Rattle.bus.specs.Bus.{pointTo, readData}
+use Rattle.guide.specs.Requests.{pointTo, readData}
 use Rattle.guide.specs.declared.Verdict.the-variants.{Done, Mismatch, Halted}
 use Rattle.guide.specs.declared.Reason.the-variants.{Banks}
 use Rattle.guide.specs.Judged.{polledOf, banksRight}

@@ -14,8 +14,8 @@ use Rattle.line.specs.Reading.{lineOf}
 use Rattle.promise.proofs.Basics.{and-true}
 use Rattle.line.specs.LineForm.{Row, identity, revision, third, fourth, two, four, LineForm}
 use Rattle.image.specs.Meets.{BurnBytes}
-use Rattle.bus.specs.Bus.{eight, framed}
-use Rattle.guide.specs.Guide.{lineData, lineRequest}
+use Rattle.bus.specs.Bus.{eight, framed, writeOf}
+use Rattle.guide.specs.Requests.{lineData, lineRequest}
 use Rattle.guide.specs.Statements.{sameBytes, burnBytes}
 
 -- a write line's command and the count of its data bytes
@@ -62,7 +62,7 @@ no-four command (inr (inl f, e)) g = absurd (let y : ⊥ = omega arith in y)
 no-four command (inr (inr f, e)) g = absurd (let y : ⊥ = omega arith in y)
 
 spelt : (tag command : ℕ) (content : List ℕ) → Takes command (length content) → Spelt (laid tag command content)
-unfolding lineRequest lineOf lineData framed eight sameBytes
+unfolding lineRequest lineOf lineData writeOf framed eight sameBytes
 spelt tag command [] t = no-count t (λ e. omega arith) (λ e. omega arith)
 spelt tag command (a ∷ []) t = no-count t (λ e. omega arith) (λ e. omega arith)
 spelt tag command (a ∷ b ∷ []) t =

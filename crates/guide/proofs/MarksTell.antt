@@ -12,6 +12,7 @@ use borrow.Author.Tests.{eqb-true, eqb-false}
 use Rattle.cuts.specs.Lines.{linesOf}
 use Rattle.line.specs.Digits.{digitVal, valuesOf}
 use Rattle.line.specs.Reading.{lineOf}
+use Rattle.promise.specs.Lists.{isIn}
 use Rattle.promise.proofs.Basics.{split}
 use Rattle.summary.specs.declared.Summary.{Summary}
 use Rattle.image.specs.Meets.{BurnBytes}
@@ -39,7 +40,7 @@ agree n (asks e f) (r ∷ rs) = rw (e, agree n (f r) rs)
 agree n ends rs = refl
 
 not-burn : (restore : ℕ) → reserved restore ≡ false → eqb restore 0xE7 ≡ false
-unfolding reserved
+unfolding reserved isIn
 not-burn restore e = split (eqb restore 0xE7) (λ f. absurd (true≢false (rw (eqb-true restore 0xE7 f) at e))) (λ f. f)
 
 others-agree : (n : ℕ) (T : Terms) (file : Summary) → reserved (T .restore) ≡ false → (q : Request) → Other T file q → Agrees n (asked other q)

@@ -4,7 +4,7 @@ use mathlib.Core.List.{List, [], _∷_}
 use mathlib.Core.Bool.{cond}
 use Prim.Native.Nat.{ℕ, zero, suc, _+_}
 use lib.Dec.{eqb}
-use lib.ListN.{getD, take, drop}
+use lib.ListN.{getD, drop}
 use Rattle.counts.specs.Counts.{configNumber, configId}
 use Rattle.line.specs.declared.Line.{Line}
 use Rattle.cuts.specs.Lines.{linesOf}
@@ -14,7 +14,7 @@ use Rattle.summary.specs.declared.Summary.{Summary}
 use Rattle.bus.specs.declared.Request.{Request}
 use Rattle.bus.specs.declared.ReplyForm.{ReplyForm}
 use Rattle.bus.specs.declared.ReplyForm.the-variants.{Unanswered, Misshapen, Miscoded, Good}
-use Rattle.bus.specs.Bus.{framed, writeOf, wordBytes, pointTo, readData, readBlock}
+use Rattle.bus.specs.Bus.{writeOf, wordBytes}
 use Rattle.bus.specs.ReplyForm.{formOf}
 use Rattle.guide.specs.declared.Reason.the-variants.{Nack, Shape, Pec, Program, Banks}
 use Rattle.guide.specs.declared.Verdict.the-variants.{Done, Mismatch, Halted}
@@ -24,6 +24,7 @@ use Rattle.guide.specs.declared.Fit.the-variants.{Matched, Fails}
 use Rattle.guide.specs.declared.Polled.{Polled}
 use Rattle.guide.specs.declared.Polled.the-variants.{Busy, Passed, Failed}
 use Rattle.guide.specs.Terms.{Terms}
+use Rattle.guide.specs.Requests.{device, pointTo, readData, readBlock, lineRequest}
 use Rattle.guide.specs.Plan.{Mark, other, fileLine, Plan, ask, done}
 use Rattle.guide.specs.Judged.{cleared, fitOf, polledOf, banksRight}
 
@@ -46,7 +47,7 @@ read q next = put other q next
 -- step 1: write C7 A2 00; read C5; write C5 with the four bytes read and bit 5 of the first cleared; write E7 02 00
 unfoldable pub step1 : Plan → Plan
 step1 rest =
-    write (pointTo 0xA2 0x00) (read readData λ w. write (writeOf 0xC5 (wordBytes (cleared w))) (write (writeOf 0xE7 (0x02 ∷ 0x00 ∷ [])) rest))
+    write (pointTo 0xA2 0x00) (read readData λ w. write (writeOf device 0xC5 (wordBytes (cleared w))) (write (writeOf device 0xE7 (0x02 ∷ 0x00 ∷ [])) rest))
 
 -- step 2: write C7 35 00; read C5: the counter. Read AD: identity. Write C7 87 BD; read C5: the flag. Read AE: revision
 unfoldable pub gate : Fit → Plan → Plan
@@ -64,14 +65,6 @@ step2 T file rest =
     write (pointTo 0x87 0xBD) (read readData λ flag.
     read (readBlock 0xAE) λ revision.
     gate (fitOf (targetOf file) (T .kept) (record { counter = counter; identity = identity; flag = flag; revision = revision })) rest))
-
--- the data bytes that a line has
-unfoldable pub lineData : Line → List ℕ
-lineData l = take (l .count) (l .d0 ∷ l .d1 ∷ l .d2 ∷ l .d3 ∷ [])
-
--- a write line as it stands; the PEC sent is the line's last byte
-unfoldable pub lineRequest : Line → Request
-lineRequest l = framed (0xC0 ∷ l .command ∷ lineData l) (l .crc)
 
 -- step 3: the write lines 5 to n, as they stand
 unfoldable pub lines : ℕ → List Line → Plan → Plan
@@ -108,7 +101,7 @@ crcIn file N = getD (file .crcs) N 0
 unfoldable pub verify : Terms → Summary → ℕ → ℕ → Plan
 verify T file zero N = done Done
 verify T file (suc left) N =
-    write (writeOf (T .restore) (idIn file N ∷ [])) (write (pointTo 0x94 0x00) (read readData λ crc.
+    write (writeOf device (T .restore) (idIn file N ∷ [])) (write (pointTo 0x94 0x00) (read readData λ crc.
     cond (eqb crc (crcIn file N)) (verify T file left (N + 1)) (done (Mismatch (configNumber N)))))
 
 abbrev pub step6 : Terms → Summary → Plan

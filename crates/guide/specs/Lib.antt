@@ -1,4 +1,5 @@
 pub mod Terms
+pub mod Requests
 pub mod Numbers
 pub mod Judged
 pub mod Plan

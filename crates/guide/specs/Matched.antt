@@ -8,11 +8,12 @@ use Prim.Native.Nat.{ℕ, _+_, _/_, _≤_, _<_}
 use Rattle.counts.specs.declared.Kind.the-variants.{Legacy, Production}
 use Rattle.bus.specs.declared.Request.{Request}
 use Rattle.bus.specs.declared.ReplyForm.the-variants.{Good}
-use Rattle.bus.specs.Bus.{writeOf, wordBytes, pointTo, readData, readBlock}
+use Rattle.bus.specs.Bus.{writeOf, wordBytes}
 use Rattle.bus.specs.ReplyForm.{formOf}
 use Rattle.guide.specs.declared.Target.{Target}
 use Rattle.guide.specs.declared.Words.{Words}
 use Rattle.guide.specs.Terms.{Terms}
+use Rattle.guide.specs.Requests.{device, pointTo, readData, readBlock}
 use Rattle.guide.specs.Plan.{Reply}
 use Rattle.guide.specs.Judged.{cleared}
 
@@ -44,7 +45,7 @@ askedIn (x ∷ xs) = x .request ∷ askedIn xs
 
 abbrev pub heard1 : ℕ → List Exchange
 heard1 w =
-    wrote (pointTo 0xA2 0x00) ∷ got readData w ∷ wrote (writeOf 0xC5 (wordBytes (cleared w))) ∷ wrote (writeOf 0xE7 (0x02 ∷ 0x00 ∷ [])) ∷ []
+    wrote (pointTo 0xA2 0x00) ∷ got readData w ∷ wrote (writeOf device 0xC5 (wordBytes (cleared w))) ∷ wrote (writeOf device 0xE7 (0x02 ∷ 0x00 ∷ [])) ∷ []
 
 abbrev pub heard2 : Words → List Exchange
 heard2 read =

@@ -13,7 +13,7 @@ use Rattle.cuts.specs.Lines.{linesOf}
 use Rattle.line.specs.Digits.{digitVal, valuesOf}
 use Rattle.summary.specs.declared.Summary.{Summary}
 use Rattle.bus.specs.declared.ReplyForm.the-variants.{Good}
-use Rattle.bus.specs.Bus.{eight, writeOf, pointTo, readData}
+use Rattle.bus.specs.Bus.{eight, writeOf}
 use Rattle.bus.specs.ReplyForm.{formOf}
 use Rattle.guide.specs.declared.Verdict.{Verdict}
 use Rattle.guide.specs.declared.Verdict.the-variants.{Done}
@@ -24,7 +24,8 @@ use Rattle.guide.specs.Numbers.{verdictTold}
 use Rattle.guide.specs.Terms.{Terms}
 use Rattle.guide.specs.Judged.{fitOf}
 use Rattle.guide.specs.Plan.{Reply, Mark, other, fileLine, Asked, Plan, ended, requests, verdict, bare}
-use Rattle.guide.specs.Guide.{targetOf, lineRequest, idIn, crcIn, writeLinesOf, guideFor}
+use Rattle.guide.specs.Requests.{device, pointTo, readData, lineRequest}
+use Rattle.guide.specs.Guide.{targetOf, idIn, crcIn, writeLinesOf, guideFor}
 use Rattle.guide.specs.Matched.{Exchange, wrote, got, Heard, askedIn, opening, Fits, Matched}
 
 -- ---- the judgement passes exactly where the values match
@@ -94,7 +95,7 @@ heard4 (w ∷ ws) = got readData w ∷ heard4 ws
 unfoldable pub heard6 : Terms → Summary → ℕ → ℕ → List Exchange
 heard6 T file zero N = []
 heard6 T file (suc left) N =
-    wrote (writeOf (T .restore) (idIn file N ∷ [])) ∷ wrote (pointTo 0x94 0x00) ∷ got readData (crcIn file N) ∷ heard6 T file left (N + 1)
+    wrote (writeOf device (T .restore) (idIn file N ∷ [])) ∷ wrote (pointTo 0x94 0x00) ∷ got readData (crcIn file N) ∷ heard6 T file left (N + 1)
 
 -- the hex digit 1 in the k lowest places: banks 0 to k - 1 are 0001 and the others 0000
 unfoldable pub ones : ℕ → ℕ

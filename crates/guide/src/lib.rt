@@ -10,6 +10,9 @@ pub use fits::kind_wanted;
 pub use found::banks_right;
 pub use requests::cleared;
 pub use requests::line_request;
+pub use requests::point;
+pub use requests::read;
+pub use requests::write;
 use summary::Refusal;
 
 // Why a session that had begun is halted, 20 to 30.

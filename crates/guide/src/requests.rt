@@ -1,13 +1,14 @@
-// What goes out: the word of step 1, and a write line of step 3.
+// What goes out, and where to: reads and writes, among them the word of step 1 and the write lines of step 3.
 use bus::Bus;
 use bus::Request;
 use line::Line;
 ghost use mathlib.Core.Path.{_≡_};
-ghost use mathlib.Core.Bool.{false};
 ghost use mathlib.Core.List.{[], _∷_};
-ghost use Rattle.bus.specs.declared.Request.{Request};
+ghost use Prim.Native.Nat.{_%_, _/_};
+ghost use lib.ListN.{take};
+ghost use Rattle.bus.specs.Bus.{writeOf, readOf};
 ghost use Rattle.guide.specs.Judged.{cleared};
-ghost use Rattle.guide.specs.Guide.{lineRequest};
+ghost use Rattle.guide.specs.Requests.{device, pointTo, lineRequest};
 
 // Bit 5 of the first byte cleared, the others as read.
 pub fn cleared(word: u32) -> u32
@@ -16,28 +17,35 @@ pub fn cleared(word: u32) -> u32
     word - word / 32 % 2 * 32
 }
 
-// A write whose first byte is the address and whose last is a zero.
-fn laid(command: u8, a: u8, b: u8, c: u8, d: u8, e: u8, used: u8) -> Request
-    ensures { λ r. ⌜ r ≡ record { bytes = 0xC0 ∷ command ∷ a ∷ b ∷ c ∷ d ∷ e ∷ 0 ∷ []; used = used; reads = false } ⌝ }
+// The device's address, which every request goes to.
+const DEVICE: u8 = Bus::WRITE;
+
+// A write of the first `count` of four data bytes.
+pub fn write(command: u8, count: usize, a: u8, b: u8, c: u8, d: u8) -> Request
+    ensures { λ r. ⌜ r ≡ writeOf device command (take count (a ∷ b ∷ c ∷ d ∷ [])) ⌝ }
 {
-    Request {
-        bytes: [Bus::WRITE, command, a, b, c, d, e, 0],
-        used: used,
-        reads: false,
-    }
+    Bus::write(DEVICE, command, count, a, b, c, d)
 }
 
-// A write line as it stands; the PEC sent is the line's last byte.
+// A read whose reply has so many bytes.
+pub fn read(command: u8, count: u8) -> Request
+    ensures { λ r. ⌜ r ≡ readOf device command count ⌝ }
+{
+    Bus::read(DEVICE, command, count)
+}
+
+// The write that points to a register, low byte first, before it is read (C7 A2 00 points to 00A2).
+pub fn point(register: u16) -> Request
+    ensures { λ r. ⌜ r ≡ pointTo (register % 256) (register / 256) ⌝ }
+{
+    let low = (register % 256) as u8;
+    let high = (register / 256) as u8;
+    write(Bus::POINT, 2, low, high, 0, 0)
+}
+
+// A write line as it stands. Its PEC is worked out again, and is the line's own last byte.
 pub fn line_request(line: Line) -> Request
     ensures { λ r. ⌜ r ≡ lineRequest line ⌝ }
 {
-    let l = line;
-    let count = line.count;
-    match count {
-        0 => laid(l.command, l.crc, 0, 0, 0, 0, 3),
-        1 => laid(l.command, l.d0, l.crc, 0, 0, 0, 4),
-        2 => laid(l.command, l.d0, l.d1, l.crc, 0, 0, 5),
-        3 => laid(l.command, l.d0, l.d1, l.d2, l.crc, 0, 6),
-        _ => laid(l.command, l.d0, l.d1, l.d2, l.d3, l.crc, 7),
-    }
+    write(line.command, line.count, line.d0, line.d1, line.d2, line.d3)
 }

@@ -3,8 +3,9 @@ use Prim.Native.Nat.{ℕ, _%_, _/_, _<_}
 use mathlib.Core.List.{List}
 use lib.ListN.{take}
 use Rattle.bus.specs.declared.Request.{Request}
-use Rattle.bus.specs.Bus.{readData, readBlock, framed}
+use Rattle.bus.specs.Bus.{framed}
 use Rattle.bus.specs.InForm.{InForm, spelled}
+use Rattle.guide.specs.Requests.{readData, readBlock}
 use Rattle.host.specs.declared.Regulator.{Regulator}
 use Rattle.host.specs.declared.Reply.{Reply}
 use Rattle.host.specs.Replies.{valueOf, deviceReply}

@@ -16,10 +16,11 @@ use Rattle.line.proofs.Rows.{row-count, row-by}
 use Rattle.line.proofs.GoodExactly.{form-length}
 use Rattle.image.specs.Says.{word, identityOf, idOf, crcOf}
 use Rattle.summary.specs.Burn.{isBurn}
-use Rattle.image.specs.Tests.{isIn, knownDevice}
+use Rattle.image.specs.Tests.{knownDevice}
 use Rattle.image.specs.Parts.{parts}
 use Rattle.image.specs.Meets.{commandIn, dataIn, Accepts29, BurnBytes}
-use Rattle.image.proofs.Search.{in-list, list-in}
+use Rattle.promise.specs.Lists.{isIn}
+use Rattle.promise.proofs.Members.{in-list, list-in}
 
 data-at : (v : List ℕ) (i : ℕ) → 6 + i ≤ length v → getD (dataOf v) i 0 ≡ dataIn i v
 data-at v i h = slice-get v 4 (length v - 1) i (omega arith)

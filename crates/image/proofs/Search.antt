@@ -1,14 +1,13 @@
--- A search among numbers or bytes finds exactly what is there. Assumes nothing.
-use mathlib.Core.Path.{_≡_, refl, sym}
-use mathlib.Core.Bool.{Bool, true, false, cond, true≢false, false≢true}
-use mathlib.Core.List.{List, [], _∷_, List·Memᴰ, List·Memᴰ·head, List·Memᴰ·tail}
+-- A search among numbers finds exactly what is there. Assumes nothing.
+use mathlib.Core.Path.{_≡_, refl}
+use mathlib.Core.Bool.{Bool, true, false, cond, true≢false}
 use Prim.Native.Nat.{ℕ, zero, suc, _+_, _<_}
 use native.Mathlib.Omega.{arith}
 use native.Mathlib.Numerals.{add-one}
-use lib.Dec.{eqb, ltb}
-use borrow.Author.Tests.{ltb-true, ltb-false, eqb-true, eq-eqb}
-use Rattle.promise.proofs.Basics.{split}
-use Rattle.image.specs.Tests.{someBelow, isIn}
+use lib.Dec.{ltb}
+use borrow.Author.Tests.{ltb-true, ltb-false}
+use Rattle.promise.proofs.Basics.{split, or-none}
+use Rattle.image.specs.Tests.{someBelow}
 
 pub or-false : (a b : Bool) → cond a true b ≡ false → (a ≡ false) × (b ≡ false)
 or-false true b e = absurd (true≢false e)
@@ -17,10 +16,6 @@ or-false false b e = (refl, e)
 pub must-pass : (a b : Bool) → cond a b true ≡ false → (a ≡ true) × (b ≡ false)
 must-pass true b e = (refl, e)
 must-pass false b e = absurd (true≢false e)
-
-pub or-none : (a : Bool) → a ≡ cond a true false
-or-none true = refl
-or-none false = refl
 
 -- ---- numbers under k
 
@@ -66,16 +61,3 @@ pub below-same : (k : ℕ) (test other : ℕ → Bool) → ((i : ℕ) → i < k 
 unfolding someBelow
 below-same zero test other f = refl
 below-same (suc k) test other f = rw (below-same k test other (λ i h. f i (omega arith)), f k (omega arith))
-
--- ---- bytes of a list
-
-pub in-list : (b : ℕ) (xs : List ℕ) → isIn b xs ≡ true → List·Memᴰ b xs
-unfolding isIn
-in-list b [] e = absurd (false≢true e)
-in-list b (x ∷ xs) e =
-    split (eqb x b) (λ h. List·Memᴰ·head (sym (eqb-true x b h))) (λ h. List·Memᴰ·tail (in-list b xs (simp h at e)))
-
-pub list-in : {b : ℕ} {xs : List ℕ} → List·Memᴰ b xs → isIn b xs ≡ true
-unfolding isIn
-list-in {b} (List·Memᴰ·head {x} {xs} e) = rw (eq-eqb x b (sym e))
-list-in {b} (List·Memᴰ·tail {x} {xs} m) = split (eqb x b) (λ h. rw h) (λ h. rw h (list-in m))

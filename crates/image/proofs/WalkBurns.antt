@@ -14,7 +14,8 @@ use Rattle.image.specs.Tests.{someBelow, burnAt, burnAmiss}
 use Rattle.image.specs.Private.Walk.{noLine, start, factsWith, factsFrom}
 use Rattle.image.specs.Private.Cascade.{burnAmissIn}
 use Rattle.image.proofs.Holds.{BurnLast}
-use Rattle.image.proofs.Search.{or-none, or-false, must-pass, below-first}
+use Rattle.promise.proofs.Basics.{or-none}
+use Rattle.image.proofs.Search.{or-false, must-pass, below-first}
 use Rattle.image.proofs.WalkSays.{lineSays, saysOf, says-length, says-at, goes}
 
 -- the facts of some good lines

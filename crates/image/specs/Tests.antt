@@ -1,9 +1,10 @@
 -- The tests of the whole file, each true where its number is given (document 01, "Numbers for a file"). Assumes nothing.
 use Prim.Native.Nat.{ℕ, zero, suc, _+_, _-_}
 use mathlib.Core.Bool.{Bool, true, false, cond, not}
-use mathlib.Core.List.{List, [], _∷_}
+use mathlib.Core.List.{List}
 use lib.Dec.{eqb, ltb}
 use lib.ListN.{length}
+use Rattle.promise.specs.Lists.{isIn}
 use Rattle.counts.specs.declared.KindFound.{KindFound}
 use Rattle.counts.specs.declared.KindFound.the-variants.{Is, Unknown}
 use Rattle.counts.specs.Counts.{lineNumber, configNumber, identifierLine, crcLine}
@@ -16,10 +17,6 @@ use Rattle.image.specs.Parts.{parts}
 unfoldable pub someBelow : ℕ → (ℕ → Bool) → Bool
 someBelow zero test = false
 someBelow (suc k) test = cond (someBelow k test) true (test k)
-
-unfoldable pub isIn : ℕ → List ℕ → Bool
-isIn b [] = false
-isIn b (x ∷ xs) = cond (eqb x b) true (isIn b xs)
 
 -- 49D2, the middle byte of one of the parts, 00
 unfoldable pub knownDevice : Line → Bool

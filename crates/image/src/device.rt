@@ -1,7 +1,8 @@
 // The 29 accepted identities (document 01, "The whole file").
 use line::Line;
 ghost use mathlib.Core.Path.{_≡_};
-ghost use Rattle.image.specs.Tests.{isIn, knownDevice};
+ghost use Rattle.promise.specs.Lists.{isIn};
+ghost use Rattle.image.specs.Tests.{knownDevice};
 
 // Their middle bytes.
 const PARTS: [u8; 29] = [

@@ -10,10 +10,11 @@ use Rattle.summary.specs.declared.FileAnswer.{FileAnswer}
 use Rattle.summary.specs.declared.FileAnswer.the-variants.{Accepted, Refused}
 use Rattle.summary.specs.Answers.{noSummary}
 use Rattle.image.specs.Check.{checkOf}
-use Rattle.bus.specs.Bus.{noRequest, pointTo}
+use Rattle.bus.specs.Bus.{noRequest}
 use Rattle.guide.specs.declared.Verdict.{Verdict}
 use Rattle.guide.specs.declared.Verdict.the-variants.{Setting, File}
 use Rattle.guide.specs.declared.Words.{Words}
+use Rattle.guide.specs.Requests.{pointTo}
 use Rattle.session.specs.declared.Settings.{Settings}
 use Rattle.session.specs.declared.Position.{Position}
 use Rattle.session.specs.declared.Session.{Session}

@@ -11,8 +11,7 @@ use Rattle.line.specs.declared.NextLine as line
 use Rattle.line.specs.declared.NextLine.the-variants.{End, Took, Stopped}
 use Rattle.line.specs.Reading.{nextLine}
 use Rattle.summary.specs.Burn.{isBurn}
-use Rattle.bus.specs.Bus.{pointTo}
-use Rattle.guide.specs.Guide.{lineRequest}
+use Rattle.guide.specs.Requests.{pointTo, lineRequest}
 use Rattle.session.specs.declared.Position.{Position}
 use Rattle.session.specs.declared.Session.{Session}
 use Rattle.session.specs.declared.Handed.{Handed}

@@ -5,11 +5,12 @@ use mathlib.Core.List.{List, [], _∷_}
 use mathlib.Core.Bool.{cond}
 use Rattle.bus.specs.declared.ReplyForm.{ReplyForm}
 use Rattle.bus.specs.declared.ReplyForm.the-variants.{Unanswered, Misshapen, Miscoded, Good}
-use Rattle.bus.specs.Bus.{writeOf, wordBytes, pointTo, readData}
+use Rattle.bus.specs.Bus.{writeOf, wordBytes}
 use Rattle.bus.specs.ReplyForm.{formOf}
 use Rattle.guide.specs.declared.Reason.the-variants.{Nack, Shape, Pec}
 use Rattle.guide.specs.declared.Verdict.the-variants.{Halted}
 use Rattle.guide.specs.Judged.{cleared}
+use Rattle.guide.specs.Requests.{device, pointTo, readData}
 use Rattle.session.specs.declared.Session.{Session}
 use Rattle.session.specs.declared.Handed.{Handed}
 use Rattle.session.specs.declared.Stage.{Stage}
@@ -24,8 +25,8 @@ use Rattle.session.specs.Stages.{counterDoneOf, identityDoneOf, flagDone
 -- the request behind each of the document's, in its order
 unfoldable pub followOf : List ℕ → Session → Awaited → ℕ → Handed
 followOf text s CaptureAt w = putOf s CaptureRead readData
-followOf text s CaptureRead w = putOf s CaptureWrite (writeOf 0xC5 (wordBytes (cleared w)))
-followOf text s CaptureWrite w = putOf s CaptureApply (writeOf 0xE7 (0x02 ∷ 0x00 ∷ []))
+followOf text s CaptureRead w = putOf s CaptureWrite (writeOf device 0xC5 (wordBytes (cleared w)))
+followOf text s CaptureWrite w = putOf s CaptureApply (writeOf device 0xE7 (0x02 ∷ 0x00 ∷ []))
 followOf text s CaptureApply w = putOf s CounterAt (pointTo 0x35 0x00)
 followOf text s CounterAt w = putOf s CounterRead readData
 followOf text s CounterRead w = counterDoneOf s w

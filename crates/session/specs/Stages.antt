@@ -6,7 +6,7 @@ use mathlib.Core.Bool.{cond}
 use lib.Dec.{eqb, ltb}
 use Rattle.counts.specs.declared.ConfigNumber.{ConfigNumber}
 use Rattle.counts.specs.Counts.{configNumber, firstLine}
-use Rattle.bus.specs.Bus.{writeOf, pointTo, readData, readBlock}
+use Rattle.bus.specs.Bus.{writeOf}
 use Rattle.guide.specs.declared.Reason.the-variants.{Program, Banks}
 use Rattle.guide.specs.declared.Verdict.the-variants.{Done, Mismatch, Halted}
 use Rattle.guide.specs.declared.Words.{Words}
@@ -14,6 +14,7 @@ use Rattle.guide.specs.declared.Fit.{Fit}
 use Rattle.guide.specs.declared.Fit.the-variants.{Matched, Fails}
 use Rattle.guide.specs.declared.Polled.{Polled}
 use Rattle.guide.specs.declared.Polled.the-variants.{Busy, Passed, Failed}
+use Rattle.guide.specs.Requests.{device, pointTo, readData, readBlock}
 use Rattle.guide.specs.Judged.{fitOf, polledOf, banksRight}
 use Rattle.guide.specs.Guide.{targetOf, idIn, crcIn}
 use Rattle.session.specs.declared.Position.{Position}
@@ -90,7 +91,7 @@ statusDoneOf s w = polledDoneOf s (polledOf w)
 -- ---- steps 5 and 6: for N from 0, write RESTORE_CFG with one data byte, the identifier; DONE when all N passed
 
 unfoldable pub restoreOf : Session → ConfigNumber → Handed
-restoreOf s N = putOf (withPosition s (atConfig (s .position) N)) Restore (writeOf (s .settings .restore) (idIn (s .file) (N .0) ∷ []))
+restoreOf s N = putOf (withPosition s (atConfig (s .position) N)) Restore (writeOf device (s .settings .restore) (idIn (s .file) (N .0) ∷ []))
 
 unfoldable pub banksDoneOf : Session → ℕ → Handed
 banksDoneOf s w = cond (banksRight (s .file .configs) w) (restoreOf s (configNumber 0)) (endOf s (Halted Banks))

@@ -57,9 +57,9 @@ impl Session {
         ensures { λ r. ⌜ r ≡ firstOf self ⌝ }
     {
         if self.settings.wanted {
-            self.put(Awaited::CaptureAt, Bus::point(Bus::CAPTURE))
+            self.put(Awaited::CaptureAt, guide::point(Bus::CAPTURE))
         } else {
-            self.put(Awaited::CounterAt, Bus::point(Bus::COUNTER))
+            self.put(Awaited::CounterAt, guide::point(Bus::COUNTER))
         }
     }
 }

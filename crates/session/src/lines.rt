@@ -66,7 +66,7 @@ impl Session {
         if line < self.file.lines {
             self.put_line(text, LineNumber(line + 1))
         } else {
-            self.put(Awaited::StatusAt, Bus::point(Bus::STATUS))
+            self.put(Awaited::StatusAt, guide::point(Bus::STATUS))
         }
     }
 }

@@ -6,12 +6,26 @@ use crate::Session;
 use crate::Stage;
 use bus::Bus;
 use bus::ReplyForm;
+use bus::Request;
 use guide::Reason;
 use guide::Verdict;
 ghost use mathlib.Core.Path.{_≡_};
+ghost use Rattle.bus.specs.Bus.{writeOf, wordBytes};
+ghost use Rattle.guide.specs.Requests.{device};
 ghost use Rattle.session.specs.Moves.{overOf};
 ghost use Rattle.session.specs.Private.Ready.{Ready};
 ghost use Rattle.session.specs.Reply.{followOf, repliedOf, replyOf};
+
+// The word of step 1 goes back to its register, lowest byte first, as words are read.
+fn write_back(word: u32) -> Request
+    ensures { λ r. ⌜ r ≡ writeOf device 0xC5 (wordBytes word) ⌝ }
+{
+    let a = (word % 256) as u8;
+    let b = (word / 256 % 256) as u8;
+    let c = (word / 65536 % 256) as u8;
+    let d = (word / 16777216 % 256) as u8;
+    guide::write(Bus::DATA, 4, a, b, c, d)
+}
 
 impl Session {
     // A reply in form, by the request that it answers.
@@ -20,26 +34,29 @@ impl Session {
         ensures { λ r. ⌜ r ≡ followOf (now (text .entry)) self awaited word ⌝ }
     {
         match awaited {
-            Awaited::CaptureAt => self.put(Awaited::CaptureRead, Bus::read(Bus::DATA, 5)),
+            Awaited::CaptureAt => self.put(Awaited::CaptureRead, guide::read(Bus::DATA, 5)),
             Awaited::CaptureRead => self.put(
                 Awaited::CaptureWrite,
-                Bus::write4(Bus::DATA, guide::cleared(word)),
+                write_back(guide::cleared(word)),
             ),
-            Awaited::CaptureWrite => self.put(Awaited::CaptureApply, Bus::write2(Bus::ACT, 2, 0)),
-            Awaited::CaptureApply => self.put(Awaited::CounterAt, Bus::point(Bus::COUNTER)),
-            Awaited::CounterAt => self.put(Awaited::CounterRead, Bus::read(Bus::DATA, 5)),
+            Awaited::CaptureWrite => self.put(
+                Awaited::CaptureApply,
+                guide::write(Bus::ACT, 2, 2, 0, 0, 0),
+            ),
+            Awaited::CaptureApply => self.put(Awaited::CounterAt, guide::point(Bus::COUNTER)),
+            Awaited::CounterAt => self.put(Awaited::CounterRead, guide::read(Bus::DATA, 5)),
             Awaited::CounterRead => self.counter_done(word),
             Awaited::IdentityRead => self.identity_done(word),
-            Awaited::FlagAt => self.put(Awaited::FlagRead, Bus::read(Bus::DATA, 5)),
+            Awaited::FlagAt => self.put(Awaited::FlagRead, guide::read(Bus::DATA, 5)),
             Awaited::FlagRead => self.flag_done(word),
             Awaited::RevisionRead => self.revision_done(text, word),
             Awaited::LineOut => self.line_done(text),
-            Awaited::StatusAt => self.put(Awaited::StatusRead, Bus::read(Bus::DATA, 5)),
+            Awaited::StatusAt => self.put(Awaited::StatusRead, guide::read(Bus::DATA, 5)),
             Awaited::StatusRead => self.status_done(word),
-            Awaited::BanksAt => self.put(Awaited::BanksRead, Bus::read(Bus::DATA, 5)),
+            Awaited::BanksAt => self.put(Awaited::BanksRead, guide::read(Bus::DATA, 5)),
             Awaited::BanksRead => self.banks_done(word),
-            Awaited::Restore => self.put(Awaited::CrcAt, Bus::point(Bus::CRC)),
-            Awaited::CrcAt => self.put(Awaited::CrcRead, Bus::read(Bus::DATA, 5)),
+            Awaited::Restore => self.put(Awaited::CrcAt, guide::point(Bus::CRC)),
+            Awaited::CrcAt => self.put(Awaited::CrcRead, guide::read(Bus::DATA, 5)),
             Awaited::CrcRead => self.crc_done(word),
         }
     }

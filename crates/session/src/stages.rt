@@ -24,7 +24,7 @@ impl Session {
         let mut p = self.position;
         p.read.counter = word;
         self.moved(p)
-            .put(Awaited::IdentityRead, Bus::read(Bus::IDENTITY, 6))
+            .put(Awaited::IdentityRead, guide::read(Bus::IDENTITY, 6))
     }
 
     // Kept for 24.
@@ -34,7 +34,7 @@ impl Session {
     {
         let mut p = self.position;
         p.read.identity = word;
-        self.moved(p).put(Awaited::FlagAt, Bus::point(Bus::FLAG))
+        self.moved(p).put(Awaited::FlagAt, guide::point(Bus::FLAG))
     }
 
     // Kept for 25 and 27.
@@ -45,7 +45,7 @@ impl Session {
         let mut p = self.position;
         p.read.flag = word;
         self.moved(p)
-            .put(Awaited::RevisionRead, Bus::read(Bus::REVISION, 6))
+            .put(Awaited::RevisionRead, guide::read(Bus::REVISION, 6))
     }
 
     // The words that step 2 read, with the last of them.
@@ -74,7 +74,7 @@ impl Session {
             let mut p = self.position;
             p.polls = polls;
             self.moved(p)
-                .put(Awaited::StatusRead, Bus::read(Bus::DATA, 5))
+                .put(Awaited::StatusRead, guide::read(Bus::DATA, 5))
         } else {
             self.end(Verdict::Halted(Reason::Program))
         }
@@ -88,7 +88,7 @@ impl Session {
         let polled = Polled::of(word);
         match polled {
             Polled::Busy => self.poll_again(),
-            Polled::Passed => self.put(Awaited::BanksAt, Bus::point(Bus::BANKS)),
+            Polled::Passed => self.put(Awaited::BanksAt, guide::point(Bus::BANKS)),
             Polled::Failed => self.end(Verdict::Halted(Reason::Program)),
         }
     }
@@ -103,8 +103,10 @@ impl Session {
         let i = number.0 as usize;
         let ids = self.file.ids;
         let id = ids[i];
-        self.moved(p)
-            .put(Awaited::Restore, Bus::write1(self.settings.restore, id.0))
+        self.moved(p).put(
+            Awaited::Restore,
+            guide::write(self.settings.restore, 1, id.0, 0, 0, 0),
+        )
     }
 
     // Step 6 goes through the configurations from N = 0.

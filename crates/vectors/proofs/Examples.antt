@@ -6,13 +6,13 @@ use Rattle.line.specs.declared.Fault.the-variants.{Pairs, Length, Crc}
 use Rattle.line.specs.Digits.{digitVal, allDigits, pairVal, valuesOf}
 use Rattle.line.specs.Reading.{lineOf, badPairs, someTo32, headOk, bodyOk, formOk, lengthRight, crcRight, formRight, readValues, readDigits, readLine}
 use Rattle.image.specs.Says.{word, crcOf}
-use Rattle.bus.specs.Bus.{eight, readOf}
+use Rattle.bus.specs.Bus.{eight, readAddress, readOf}
 use Rattle.bus.specs.ReplyForm.{wordAt, sealedOf, readForm, doneForm, formOf}
 use Rattle.text.specs.Text.{bytesOf}
 use Rattle.vectors.specs.Examples.{ExampleHolds, twelve, AllHold}
 
 pub examples-hold : AllHold twelve
-unfolding AllHold ExampleHolds bytesOf readLine readDigits readValues allDigits valuesOf pairVal digitVal badPairs lengthRight crcRight formRight formOk headOk bodyOk someTo32 lineOf crcOf word formOf doneForm readForm sealedOf wordAt readOf eight pecFrom step remainder shifts shift topBit
+unfolding AllHold ExampleHolds bytesOf readLine readDigits readValues allDigits valuesOf pairVal digitVal badPairs lengthRight crcRight formRight formOk headOk bodyOk someTo32 lineOf crcOf word formOf doneForm readForm sealedOf wordAt readAddress readOf eight pecFrom step remainder shifts shift topBit
 examples-hold = (
   refl,
   (

@@ -13,7 +13,7 @@ use Rattle.line.specs.Reading.{faultNumber, readLine}
 use Rattle.image.specs.Says.{crcOf}
 use Rattle.bus.specs.declared.Request.{Request}
 use Rattle.bus.specs.declared.ReplyForm.the-variants as form
-use Rattle.bus.specs.Bus.{readData, readBlock}
+use Rattle.guide.specs.Requests.{readData, readBlock}
 use Rattle.bus.specs.ReplyForm.{formOf}
 
 pub data Example : Type 0 where

@@ -4,7 +4,7 @@ use Prim.Native.Nat.{_-_}
 use lib.ListN.{length, drop, drop-of-length-le}
 use borrow.Author.Tests.{eq-eqb, ne-eqb}
 use Rattle.promise.proofs.Basics.{drop-at1}
-use Rattle.image.specs.Tests.{isIn}
+use Rattle.promise.specs.Lists.{isIn}
 use borrow.Author.Needs.{needs}
 use Rattle.image.proofs.device.is_in.Statement.{statement}
 use Rattle.image.proofs.device.is_in.Tie as tie
@@ -23,7 +23,7 @@ unfolding isIn
 returns c = sym (c .before .before .before .loop .inv ∙ rw (
   drop-at1 (c .before .before .before .before .args .list .now)
       (c .before .before .before .loop .i) (c .before .before .loop-test .taken),
-  eq-eqb _ _ (c .if1 .taken),
+  eq-eqb _ _ (sym (c .if1 .taken)),
 ))
 
 loop-again : tie.Need-loop-again Inv-loop μ-loop
@@ -31,7 +31,7 @@ unfolding isIn
 loop-again c = c .before .before .before .loop .inv ∙ rw (
   drop-at1 (c .before .before .before .before .args .list .now)
       (c .before .before .before .loop .i) (c .before .before .loop-test .taken),
-  ne-eqb _ _ (c .if1 .left),
+  ne-eqb _ _ (λ e. c .if1 .left (sym e)),
 )
 
 returns-2 : tie.Need-returns-2 Inv-loop μ-loop

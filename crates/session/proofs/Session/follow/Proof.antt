@@ -2,6 +2,7 @@
 use mathlib.Core.Path.{_∙_, ap}
 use Rattle.session.specs.Moves.{putOf}
 use Rattle.bus.specs.Bus.{writeOf, wordBytes}
+use Rattle.guide.specs.Requests.{device}
 use Rattle.session.specs.Reply.{followOf}
 use borrow.Author.Needs.{needs}
 use Rattle.session.proofs.Session.follow.Statement.{statement}
@@ -16,11 +17,11 @@ unfolding followOf
 returns-2 c =
     rw (c .before .before .before .enum-told2 .given .1)
     (c .put2 .ensures
-    ∙ ap (putOf _ _) (c .before .write4 .ensures ∙ ap (λ w. writeOf 0xC5 (wordBytes w)) (c .before .before .cleared .ensures)))
+    ∙ ap (putOf _ _) (c .before .write-back .ensures ∙ ap (λ w. writeOf device 0xC5 (wordBytes w)) (c .before .before .cleared .ensures)))
 
 returns-3 : tie.Need-returns-3
 unfolding followOf
-returns-3 c = rw (c .before .before .enum-told3 .given .1) (c .put3 .ensures ∙ ap (putOf _ _) (c .before .write2 .ensures))
+returns-3 c = rw (c .before .before .enum-told3 .given .1) (c .put3 .ensures ∙ ap (putOf _ _) (c .before .write .ensures))
 
 returns-4 : tie.Need-returns-4
 unfolding followOf

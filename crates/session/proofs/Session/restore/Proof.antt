@@ -12,7 +12,7 @@ put-requires c κs = rw (c .before .moved .ensures) (search needs)
 
 returns : tie.Need-returns
 unfolding restoreOf atConfig idIn
-returns c = rw (c .put .ensures, c .before .write1 .ensures, c .before .before .moved .ensures)
+returns c = rw (c .put .ensures, c .before .write .ensures, c .before .before .moved .ensures)
 
 pub restore-spec : {M : Type 1} → statement M
 restore-spec =
