@@ -27,3 +27,4 @@ pub mod BeginsSo
 pub mod FourteenExactly
 pub mod AsAsked
 pub mod Blind
+pub mod InBytes
