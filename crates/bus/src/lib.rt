@@ -5,7 +5,7 @@ ghost use mathlib.Core.Bool.{false};
 ghost use Prim.Native.Nat.{_+_, _≤_};
 ghost use lib.ListN.{length, take};
 ghost use Rattle.bus.specs.declared.Request.{Request};
-ghost use Rattle.bus.specs.Bus.{framed, writeOf, readOf, noRequest, reserved};
+ghost use Rattle.bus.specs.Bus.{framed, writeOf, writeWith, readOf, noRequest, reserved};
 ghost use Rattle.bus.specs.ReplyForm.{wordOf, sealedOf, readForm, formOf};
 
 // What is handed to the host: eight bytes, of which `used` are sent or, of a read, ask; the others are zeros.
@@ -57,18 +57,36 @@ impl Bus {
 
     pub const CRC: u16 = 0x0094;
 
-    // A write of the first `count` of four data bytes, with the PEC of all that goes out before it.
-    pub fn write(address: u8, command: u8, count: usize, a: u8, b: u8, c: u8, d: u8) -> Request
-        ensures { λ r. ⌜ r ≡ writeOf address command (take count (a ∷ b ∷ c ∷ d ∷ [])) ⌝ }
+    // A write of the first `count` of four data bytes, with the PEC of all that goes out before it, by a lent table: a caller that
+    // has made the table already does not make it again.
+    pub fn write_with(
+        table: &[u8; 256],
+        address: u8,
+        command: u8,
+        count: usize,
+        a: u8,
+        b: u8,
+        c: u8,
+        d: u8,
+    ) -> Request
+        ensures { λ r. ⌜ r ≡ writeWith (now (table .entry)) address command (take count (a ∷ b ∷ c ∷ d ∷ [])) ⌝ }
     {
         let body = [address, command, a, b, c, d];
         if count < 4 {
-            let code = pec::of(&body[..2 + count]);
+            let code = pec::run_with(table, 0, &body[..2 + count]);
             framed(address, command, count, a, b, c, d, code)
         } else {
-            let code = pec::of(&body);
+            let code = pec::run_with(table, 0, &body);
             framed(address, command, count, a, b, c, d, code)
         }
+    }
+
+    // The same for one write alone: the table is made for it.
+    pub fn write(address: u8, command: u8, count: usize, a: u8, b: u8, c: u8, d: u8) -> Request
+        ensures { λ r. ⌜ r ≡ writeOf address command (take count (a ∷ b ∷ c ∷ d ∷ [])) ⌝ }
+    {
+        let table = pec::table();
+        Bus::write_with(&table, address, command, count, a, b, c, d)
     }
 
     // A read whose reply has so many bytes: 5 for a register, 6 for a block. The count is no byte of the bus.

@@ -15,6 +15,7 @@ pub mod Burning
 pub mod GateHolds
 pub mod BurnsHold
 pub mod LineBytes
+pub mod LentTable
 pub mod MarksTell
 pub mod OfText
 pub mod StepOneClears

@@ -1,7 +1,7 @@
 -- One answer: any two results that the promise of a public function allows for the same input are equal. tests/check-unique holds each
 -- of these to the source. Assumes nothing.
 use mathlib.Core.Path.{_≡_}
-use mathlib.Core.List.{[], _∷_}
+use mathlib.Core.List.{List, [], _∷_}
 use Prim.Native.Nat.{ℕ, _%_, _/_}
 use lib.ListN.{take}
 use Rattle.bus.specs.Bus.{writeOf, readOf}
@@ -10,7 +10,7 @@ use Rattle.guide.specs.declared.Reason.{Reason}
 use Rattle.guide.specs.declared.Verdict.{Verdict}
 use Rattle.guide.specs.Numbers.{reasonNumber, verdictTold}
 use Rattle.guide.specs.Judged.{banksRight, cleared, fitOf, kindWanted, polledOf}
-use Rattle.guide.specs.Requests.{device, pointTo, lineRequest}
+use Rattle.guide.specs.Requests.{device, pointTo, lineRequestWith}
 use Rattle.guide.specs.Guide.{targetOf}
 use Rattle.promise.specs.One.{One}
 use Rattle.promise.proofs.Equal.{one-answer}
@@ -51,5 +51,5 @@ one-read command count = one-answer _
 pub one-point : (register : ℕ) → One (λ r. r ≡ pointTo (register % 256) (register / 256))
 one-point register = one-answer _
 
-pub one-line-request : (line : Line) → One (λ r. r ≡ lineRequest line)
-one-line-request line = one-answer _
+pub one-line-request : (table : List ℕ) (line : Line) → One (λ r. r ≡ lineRequestWith table line)
+one-line-request table line = one-answer _

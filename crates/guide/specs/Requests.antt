@@ -5,7 +5,7 @@ use Prim.Native.Nat.{ℕ}
 use lib.ListN.{take}
 use Rattle.line.specs.declared.Line.{Line}
 use Rattle.bus.specs.declared.Request.{Request}
-use Rattle.bus.specs.Bus.{writeOf, readOf}
+use Rattle.bus.specs.Bus.{writeOf, writeWith, readOf}
 
 -- the address that the guide gives; it stands here and nowhere else
 abbrev pub device : ℕ
@@ -27,3 +27,8 @@ lineData l = take (l .count) (l .d0 ∷ l .d1 ∷ l .d2 ∷ l .d3 ∷ [])
 -- a write line as it stands: the line's own last byte is this PEC (`line-spelt` of proofs/LineBytes.antt)
 unfoldable pub lineRequest : Line → Request
 lineRequest l = writeOf device (l .command) (lineData l)
+
+-- the same by a lent table, whatever it holds. By one that keeps its rule it is the line's request (`request-right` of
+-- proofs/LentTable.antt)
+unfoldable pub lineRequestWith : List ℕ → Line → Request
+lineRequestWith table l = writeWith table device (l .command) (lineData l)

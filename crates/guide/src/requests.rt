@@ -8,7 +8,7 @@ ghost use Prim.Native.Nat.{_%_, _/_};
 ghost use lib.ListN.{take};
 ghost use Rattle.bus.specs.Bus.{writeOf, readOf};
 ghost use Rattle.guide.specs.Judged.{cleared};
-ghost use Rattle.guide.specs.Requests.{device, pointTo, lineRequest};
+ghost use Rattle.guide.specs.Requests.{device, pointTo, lineRequestWith};
 
 // Bit 5 of the first byte cleared, the others as read.
 pub fn cleared(word: u32) -> u32
@@ -43,9 +43,18 @@ pub fn point(register: u16) -> Request
     write(Bus::POINT, 2, low, high, 0, 0)
 }
 
-// A write line as it stands. Its PEC is worked out again, and is the line's own last byte.
-pub fn line_request(line: Line) -> Request
-    ensures { λ r. ⌜ r ≡ lineRequest line ⌝ }
+// A write line as it stands. Its PEC is worked out again by a lent table; by the PEC's own it is the line's last byte.
+pub fn line_request(table: &[u8; 256], line: Line) -> Request
+    ensures { λ r. ⌜ r ≡ lineRequestWith (now (table .entry)) line ⌝ }
 {
-    write(line.command, line.count, line.d0, line.d1, line.d2, line.d3)
+    Bus::write_with(
+        table,
+        DEVICE,
+        line.command,
+        line.count,
+        line.d0,
+        line.d1,
+        line.d2,
+        line.d3,
+    )
 }

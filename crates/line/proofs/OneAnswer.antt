@@ -9,7 +9,7 @@ use borrow.Author.Tests.{lt-ltb}
 use Rattle.counts.specs.declared.LineNumber.{LineNumber}
 use Rattle.line.specs.declared.Fault.{Fault}
 use Rattle.line.specs.Digits.{IsDigits, digitBy}
-use Rattle.line.specs.Reading.{faultNumber, nextLine}
+use Rattle.line.specs.Reading.{faultNumber}
 use Rattle.line.specs.Lent.{lentNext}
 use Rattle.promise.specs.One.{One}
 use Rattle.promise.proofs.Equal.{one-answer}
@@ -26,6 +26,3 @@ one-digits r q e f =
 
 pub one-read-at : (digits table s : List ℕ) (at : ℕ) (n : LineNumber) → One (λ r. r ≡ lentNext digits table n at s)
 one-read-at digits table s at n = one-answer _
-
-pub one-read-one : (s : List ℕ) (at : ℕ) (n : LineNumber) → One (λ r. r ≡ nextLine n at s)
-one-read-one s at n = one-answer _

@@ -22,7 +22,7 @@ ghost use Prim.Native.Nat.{_+_, _<_};
 ghost use Rattle.pec.specs.Pec.{pec};
 ghost use Rattle.pec.specs.Lent.{runWith};
 ghost use Rattle.line.specs.Digits.{IsDigits, digitBy, valuesOf};
-ghost use Rattle.line.specs.Reading.{faultNumber, readValues, readDigits, nextBy, nextLine};
+ghost use Rattle.line.specs.Reading.{faultNumber, readValues, readDigits, nextBy};
 ghost use Rattle.line.specs.Lent.{lentNext};
 
 // What a good line says: its command, how many data bytes it has, the first four of them (zeros where there are fewer), its CRC.
@@ -163,13 +163,4 @@ pub fn read_at(
     } else {
         NextLine::End
     }
-}
-
-// The same for one line alone: the tables are made for it.
-pub fn read_one(s: &[u8], at: usize, n: LineNumber) -> NextLine
-    ensures { λ r. ⌜ r ≡ nextLine n at (now (s .entry)) ⌝ }
-{
-    let digits = digits();
-    let table = pec::table();
-    read_at(&digits, &table, s, at, n)
 }
