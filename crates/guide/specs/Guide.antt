@@ -49,15 +49,17 @@ unfoldable pub step1 : Plan → Plan
 step1 rest =
     write (pointTo 0xA2 0x00) (read readData λ w. write (writeOf device 0xC5 (wordBytes (cleared w))) (write (writeOf device 0xE7 (0x02 ∷ 0x00 ∷ [])) rest))
 
--- step 2: write C7 35 00; read C5: the counter. Read AD: identity. Write C7 87 BD; read C5: the flag. Read AE: revision
+-- the way on where none of 23 to 28 applies
 unfoldable pub gate : Fit → Plan → Plan
 gate Matched rest = rest
 gate (Fails r) rest = done (Halted r)
 
--- the words are judged when all four are read
+-- what a file asks of its device
 abbrev pub targetOf : Summary → Target
 targetOf file = record { kind = file .kind; identity = file .identity; configs = file .configs }
 
+-- step 2: write C7 35 00; read C5: the counter. Read AD: identity. Write C7 87 BD; read C5: the flag. Read AE: revision. The words
+-- are judged when all four are read
 unfoldable pub step2 : Terms → Summary → Plan → Plan
 step2 T file rest =
     write (pointTo 0x35 0x00) (read readData λ counter.

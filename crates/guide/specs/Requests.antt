@@ -7,7 +7,7 @@ use Rattle.line.specs.declared.Line.{Line}
 use Rattle.bus.specs.declared.Request.{Request}
 use Rattle.bus.specs.Bus.{writeOf, writeWith, readOf}
 
--- the address that the guide gives; it stands here and nowhere else
+-- the address that all of the guide's requests go to; its definitions take it from here alone
 abbrev pub device : ℕ
 device = 0xC0
 
