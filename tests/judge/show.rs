@@ -15,7 +15,7 @@ pub const SHOW: Printing = Printing {
     floor: FLOOR,
 };
 
-/// No file gives 12: where n = 12 + s x k, every identifier and CRC line lies in it.
+/// 12 is unused (request R-9).
 pub const FLOOR: Floor = Floor {
     cases: 1_500,
     times: 20,

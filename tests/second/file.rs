@@ -1,11 +1,9 @@
-//! "The whole file": an accepted file, and the numbers 1 and 7 to 13.
+//! "The whole file": an accepted file, and the numbers 1, 7 to 11 and 13.
 
 use crate::bytes::{highest_first, lowest_first};
 use crate::kind::Kind;
 use crate::lines::{lines_of, read_line, Line};
-use crate::refusal::{
-    refuse_whole, Refusal, BEYOND, BURN, COUNT, DEVICE, REVISION, SAME, SIZE, SPOT,
-};
+use crate::refusal::{refuse_whole, Refusal, BURN, COUNT, DEVICE, REVISION, SAME, SIZE, SPOT};
 
 const LONGEST_FILE: usize = 65_536;
 
@@ -69,7 +67,7 @@ fn read_lines(text: &[u8]) -> Result<Vec<Line>, Refusal> {
         .collect()
 }
 
-/// "then 7 for under 13 lines, 8, 9, 7 for n, 10, 12, 11, 13".
+/// "then 7 for under 13 lines, 8, 9, 7 for n, 10, 12, 11, 13", less 12, which is unused.
 fn check_lines(lines: Vec<Line>) -> Result<Image, u8> {
     if lines.len() < 13 {
         return Err(COUNT);
@@ -107,26 +105,17 @@ fn check_burn(image: &Image) -> Result<(), u8> {
     }
 }
 
-/// 12, then 11: the identifier and CRC lines lie in the file, and carry C6.
+/// 11: the identifier and CRC lines carry C6. They lie in the file, since n = 12 + s x k.
 fn check_spots(image: &Image) -> Result<(), u8> {
-    let spots: Vec<usize> = (0..image.configs)
-        .flat_map(|config| {
-            [
-                image.kind.identifier_line(config),
-                image.kind.crc_line(config),
-            ]
-        })
-        .collect();
-    if spots.iter().any(|&number| number > image.lines.len()) {
-        return Err(BEYOND);
+    let carries_c6 = |number| image.line(number).command == 0xC6;
+    let carried = (0..image.configs).all(|config| {
+        carries_c6(image.kind.identifier_line(config)) && carries_c6(image.kind.crc_line(config))
+    });
+    if carried {
+        Ok(())
+    } else {
+        Err(SPOT)
     }
-    if spots
-        .iter()
-        .any(|&number| image.line(number).command != 0xC6)
-    {
-        return Err(SPOT);
-    }
-    Ok(())
 }
 
 /// 13: identifiers in one file differ.

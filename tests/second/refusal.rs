@@ -1,4 +1,4 @@
-//! "Numbers for a file".
+//! "Numbers for a file"; 12 is unused (request R-9).
 
 pub const SIZE: u8 = 1;
 pub const CHAR: u8 = 2;
@@ -11,10 +11,9 @@ pub const REVISION: u8 = 8;
 pub const DEVICE: u8 = 9;
 pub const BURN: u8 = 10;
 pub const SPOT: u8 = 11;
-pub const BEYOND: u8 = 12;
 pub const SAME: u8 = 13;
 
-/// A refusal: its number, and the line (0 for 1 and for 7 to 13).
+/// A refusal: its number, and the line (0 for 1 and from 7 on).
 #[derive(Clone, Copy)]
 pub struct Refusal {
     pub number: u8,

@@ -1,29 +1,22 @@
 -- A file's number is 0 exactly where the file is what document 01 asks. Assumes nothing.
 use mathlib.Core.Path.{_≡_, refl, sym, ap, _∙_}
 use mathlib.Core.List.{List}
-use Prim.Native.Nat.{ℕ, _+_, _*_, _≤_, _<_}
+use Prim.Native.Nat.{ℕ, _+_, _*_, _≤_}
 use native.Mathlib.Omega.{arith}
-use lib.Dec.{lit<}
 use lib.ListN.{length}
 use borrow.Author.Tests.{ltb-false, eqb-false, not-false}
 use Rattle.counts.specs.declared.Kind.{Kind}
 use Rattle.counts.specs.Counts.{lineNumber, stepOf, crcPlace, kindOf, configsOf}
-use Rattle.line.specs.declared.Fault.{Fault}
-use Rattle.line.specs.declared.Fault.the-variants.{Char, Pairs, Length, Crc, Form}
 use Rattle.cuts.specs.Lines.{linesOf}
-use Rattle.line.specs.Reading.{faultNumber}
-use Rattle.summary.specs.declared.Whole.{Whole}
-use Rattle.summary.specs.declared.Whole.the-variants.{Size, Count, Revision, Device, Burn, Spot, Beyond, Same}
-use Rattle.summary.specs.declared.Refusal.{Refusal}
-use Rattle.summary.specs.declared.Refusal.the-variants as refusal
 use Rattle.summary.specs.declared.FileAnswer.{FileAnswer}
 use Rattle.summary.specs.declared.FileAnswer.the-variants.{Accepted, Refused}
 use Rattle.image.specs.Says.{kindIn, revisionSays, fileKind, fileConfigs}
 use Rattle.image.specs.Tests.{isUnknown, knownDevice, tooLong, tooFew, otherRevision, otherDevice, fitsNone}
 use Rattle.image.specs.Check.{checkOf}
-use Rattle.summary.specs.Answers.{wholeNumber, refusalTold, answerTold}
+use Rattle.summary.specs.Answers.{answerTold}
+use Rattle.summary.proofs.Numbers.{refusal-number}
 use Rattle.image.specs.Meets.{dataIn, numbered, Meets, AcceptedExactly}
-use Rattle.image.proofs.Counting.{kind-has, count-is, inside}
+use Rattle.image.proofs.Counting.{kind-has, count-is, id-within}
 use Rattle.image.proofs.TestsPass.{Passed, passed, accepts, answer-is}
 use Rattle.image.proofs.LineBytes.{known-bytes}
 use Rattle.image.proofs.LinesAndBytes.{valuesIn, spelled-length, says, revision-is, read-spelled, read-forms}
@@ -72,36 +65,15 @@ meets {s} p =
             burnOnce = burn .once;
             ids = λ N h. c6 N h .0;
             crcs = λ N h. c6 N h .1;
-            differ = ids-differ spelled forms is configs (λ N h. inside kind (length vs) k N count h .id) (p .differ);
+            differ = ids-differ spelled forms is configs (λ N h. id-within kind count h) (p .differ);
           };
     }
 
 -- ---- the number
 
-fault-some : (f : Fault) → 0 < faultNumber f
-fault-some Char = lit< tt
-fault-some Pairs = lit< tt
-fault-some Length = lit< tt
-fault-some Crc = lit< tt
-fault-some Form = lit< tt
-
-whole-some : (w : Whole) → 0 < wholeNumber w
-whole-some Size = lit< tt
-whole-some Count = lit< tt
-whole-some Revision = lit< tt
-whole-some Device = lit< tt
-whole-some Burn = lit< tt
-whole-some Spot = lit< tt
-whole-some Beyond = lit< tt
-whole-some Same = lit< tt
-
-refusal-some : (r : Refusal) → 0 < refusalTold r .number
-refusal-some (refusal.Line n f) = fault-some f
-refusal-some (refusal.Whole w) = whole-some w
-
 pub zero-accepts : (a : FileAnswer) → answerTold a .number ≡ 0 → a ≡ Accepted
 zero-accepts Accepted e = refl
-zero-accepts (Refused r) e = absurd (let y : ⊥ = omega (arith, refusal-some r) in y)
+zero-accepts (Refused r) e = absurd (let y : ⊥ = omega (arith, refusal-number r .some) in y)
 
 pub accepted-exactly : (s : List ℕ) → AcceptedExactly s
 accepted-exactly s =

@@ -9,7 +9,8 @@ use borrow.Author.Tests.{eqb-true, eqb-false, ltb-true, leb-true, le-leb}
 use Rattle.counts.specs.declared.Kind.{Kind}
 use Rattle.counts.specs.declared.Kind.the-variants.{Legacy, Production}
 use Rattle.counts.specs.declared.KindFound.the-variants.{Is}
-use Rattle.counts.specs.Counts.{stepOf, crcPlace, kindOf, upTo8, configsOf}
+use Rattle.counts.specs.Counts.{configNumber, stepOf, crcPlace, kindOf, lineCount, upTo8, configsOf, identifierLine, crcLine}
+use Rattle.counts.proofs.InsideHolds.{inside}
 use Rattle.promise.proofs.Basics.{split}
 use Rattle.image.specs.Says.{kindIn}
 use Rattle.image.specs.Tests.{isUnknown}
@@ -73,14 +74,12 @@ pub many-lines : (kind : Kind) (n k : ℕ) → 1 ≤ k → n ≡ 12 + stepOf kin
 many-lines Legacy n k h e = omega arith
 many-lines Production n k h e = omega arith
 
--- the identifier line and the CRC line of a configuration are lines of the file
-pub record Inside (kind : Kind) (n N : ℕ) : Type 0 where
-  pub id : stepOf kind * N + 12 ≤ n
-  pub crc : stepOf kind * N + crcPlace kind ≤ n
+-- and the identifier line and the CRC line of each configuration are lines of the file
+pub id-within : (kind : Kind) {n k N : ℕ} → n ≡ lineCount kind k → N < k → identifierLine kind (configNumber N) .0 ≤ n
+id-within kind e h = rw e (inside kind _ _ .id h)
 
-pub inside : (kind : Kind) (n k N : ℕ) → n ≡ 12 + stepOf kind * k → N < k → Inside kind n N
-inside Legacy n k N e h = record { id = omega arith; crc = omega arith }
-inside Production n k N e h = record { id = omega arith; crc = omega arith }
+pub crc-within : (kind : Kind) {n k N : ℕ} → n ≡ lineCount kind k → N < k → crcLine kind (configNumber N) .0 ≤ n
+crc-within kind e h = rw e (inside kind _ _ .crc h)
 
 pub crc-some : (kind : Kind) (N : ℕ) → 1 ≤ stepOf kind * N + crcPlace kind
 crc-some Legacy N = omega arith

@@ -18,6 +18,6 @@ pub mod WalkBurns
 pub mod Eight
 pub mod WalkSpots
 pub mod WalkKeeps
-pub mod WalkIs
+pub mod RestOfTests
 pub mod AcceptedHolds
 pub mod OneAnswer

@@ -13,11 +13,11 @@ use Rattle.cuts.specs.Lines.{linesOf}
 use Rattle.image.specs.Says.{kindIn, revisionSays, fileKind, fileConfigs}
 use Rattle.image.specs.Tests.{isUnknown, knownDevice, tooLong, tooFew, otherRevision, otherDevice, fitsNone}
 use Rattle.image.specs.Meets.{Meets}
-use Rattle.image.proofs.Counting.{has-kind, configs-is, many-lines, inside}
+use Rattle.image.proofs.Counting.{has-kind, configs-is, many-lines, id-within}
 use Rattle.image.proofs.TestsPass.{Passed}
 use Rattle.image.proofs.LineBytes.{bytes-known}
 use Rattle.image.proofs.LinesAndBytes.{spelled-length, says, revision-is, form-reads}
-use Rattle.image.proofs.WholeTests.{last-burn, c6-spots, never-beyond, differ-ids}
+use Rattle.image.proofs.WholeTests.{last-burn, c6-spots, differ-ids}
 
 -- what the definitions make of such a file: its kind, its count of lines, and its configurations
 pub record Made {s : List ℕ} (w : Meets s) : Type 0 where
@@ -70,7 +70,6 @@ met {s} w =
       device = ap not (ap knownDevice (says spelled (lineNumber 1)) ∙ bytes-known (forms 1 (omega arith) (omega arith)) (omega arith) (m .device));
       fits = fits;
       burn = last-burn spelled forms (omega arith) (record { last = m .burnLast; once = m .burnOnce });
-      inside = never-beyond ls fits;
       spots = c6-spots spelled forms (t .is) (t .configs) (rw (t .steps) at (m .ids)) (rw (t .steps, t .places) at (m .crcs));
-      differ = differ-ids spelled forms (t .is) (t .configs) (λ N h. inside (m .kind) (length vs) k N (t .count) h .id) (rw (t .steps) at (m .differ));
+      differ = differ-ids spelled forms (t .is) (t .configs) (λ N h. id-within (m .kind) (t .count) h) (rw (t .steps) at (m .differ));
     }

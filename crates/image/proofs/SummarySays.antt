@@ -3,7 +3,7 @@ use mathlib.Core.Path.{_≡_, ap, _∙_}
 use mathlib.Core.List.{List, [], _∷_}
 use Prim.Native.Nat.{ℕ, zero, suc, _+_, _*_, _≤_, _<_}
 use native.Mathlib.Omega.{arith}
-use lib.ListN.{length, getD}
+use lib.ListN.{getD}
 use borrow.Author.Tests.{lt-ltb}
 use Rattle.counts.specs.Counts.{lineNumber, configId, stepOf, crcPlace}
 use Rattle.cuts.specs.Lines.{linesOf}
@@ -11,7 +11,7 @@ use Rattle.cuts.proofs.FirstLine.{lines-from}
 use Rattle.image.specs.Says.{identityOf, idOf, crcOf, fileConfigs, idLine, configCrcLine, placeIn, eightOf, summaryOf}
 use Rattle.image.specs.Check.{checkedAs, checkOf}
 use Rattle.image.specs.Meets.{Meets, SummarySays}
-use Rattle.image.proofs.Counting.{Inside, inside, crc-some}
+use Rattle.image.proofs.Counting.{id-within, crc-within, crc-some}
 use Rattle.image.proofs.TestsPass.{accepts}
 use Rattle.image.proofs.LineBytes.{id-is, crc-is, identity-is}
 use Rattle.image.proofs.LinesAndBytes.{spelled-length, says, id-line, crc-line}
@@ -51,8 +51,6 @@ summary-says {s} w =
     let e = summary-is w in
     let k = fileConfigs ls in
     let few : k ≤ 8 = omega (arith, m .few) in
-    let within : (N : ℕ) → N < m .configs → Inside (m .kind) (length vs) N
-    = λ N h. inside (m .kind) (length vs) (m .configs) N (t .count) h in
     record {
       kind = rw e (t .is);
       identity = rw e (ap identityOf (says spelled (lineNumber 1)) ∙ identity-is (m .form 1 (omega arith) (omega arith)) (omega arith));
@@ -63,10 +61,10 @@ summary-says {s} w =
           rw (e, t .steps)
           (eight-at k (λ n. idOf (idLine ls n)) (configId 0) N (omega arith) few
           ∙ ap idOf (id-line spelled (t .is) N)
-          ∙ id-is (m .form (stepOf (m .kind) * N + 12) (omega arith) (within N h .id)));
+          ∙ id-is (m .form (stepOf (m .kind) * N + 12) (omega arith) (id-within (m .kind) (t .count) h)));
       crcs = λ N h.
           rw (e, t .steps, t .places)
           (eight-at k (λ n. crcOf (configCrcLine ls n)) 0 N (omega arith) few
           ∙ ap crcOf (crc-line spelled (t .is) N)
-          ∙ crc-is (m .form (stepOf (m .kind) * N + crcPlace (m .kind)) (crc-some (m .kind) N) (within N h .crc)) (rw (t .steps, t .places) at (m .crcs N h)));
+          ∙ crc-is (m .form (stepOf (m .kind) * N + crcPlace (m .kind)) (crc-some (m .kind) N) (crc-within (m .kind) (t .count) h)) (rw (t .steps, t .places) at (m .crcs N h)));
     }

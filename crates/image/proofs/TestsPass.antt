@@ -6,11 +6,11 @@ use Prim.Native.Nat.{ℕ, _+_, _<_}
 use lib.ListN.{length, getD}
 use Rattle.counts.specs.Counts.{lineNumber}
 use Rattle.cuts.specs.Lines.{linesOf}
-use Rattle.summary.specs.declared.Whole.the-variants.{Size, Count, Revision, Device, Burn, Spot, Beyond, Same}
+use Rattle.summary.specs.declared.Whole.the-variants.{Size, Count, Revision, Device, Burn, Spot, Same}
 use Rattle.summary.specs.declared.FileAnswer.{FileAnswer}
 use Rattle.summary.specs.declared.FileAnswer.the-variants.{Accepted, Refused}
 use Rattle.image.specs.Says.{summaryOf}
-use Rattle.image.specs.Tests.{tooLong, tooFew, otherRevision, otherDevice, fitsNone, burnAmiss, beyond, otherSpot, sameIds}
+use Rattle.image.specs.Tests.{tooLong, tooFew, otherRevision, otherDevice, fitsNone, burnAmiss, otherSpot, sameIds}
 use Rattle.image.specs.Check.{refusedIf, firstRefusal, lineAnswers, wholeAnswers, answerOf, checkedAs, checkOf}
 use Rattle.image.proofs.FirstRefusal.{first-cons, first-append, append-first, passes, Reads, lines-read, read-lines}
 
@@ -22,7 +22,6 @@ pub record Passed (s : List ℕ) : Type 0 where
   pub device : otherDevice (linesOf s) ≡ false
   pub fits : fitsNone (linesOf s) ≡ false
   pub burn : burnAmiss (linesOf s) ≡ false
-  pub inside : beyond (linesOf s) ≡ false
   pub spots : otherSpot (linesOf s) ≡ false
   pub differ : sameIds (linesOf s) ≡ false
 
@@ -37,8 +36,7 @@ passed s e =
     let device = first-cons (refusedIf (otherDevice ls) Device) _ (revision .1) in
     let fits = first-cons (refusedIf (fitsNone ls) Count) _ (device .1) in
     let burn = first-cons (refusedIf (burnAmiss ls) Burn) _ (fits .1) in
-    let inside = first-cons (refusedIf (beyond ls) Beyond) _ (burn .1) in
-    let spots = first-cons (refusedIf (otherSpot ls) Spot) _ (inside .1) in
+    let spots = first-cons (refusedIf (otherSpot ls) Spot) _ (burn .1) in
     let differ = first-cons (refusedIf (sameIds ls) Same) [] (spots .1) in
     record {
       short = passes (tooLong s) Size (size .0);
@@ -48,7 +46,6 @@ passed s e =
       device = passes (otherDevice ls) Device (device .0);
       fits = passes (fitsNone ls) Count (fits .0);
       burn = passes (burnAmiss ls) Burn (burn .0);
-      inside = passes (beyond ls) Beyond (inside .0);
       spots = passes (otherSpot ls) Spot (spots .0);
       differ = passes (sameIds ls) Same (differ .0);
     }
@@ -59,7 +56,7 @@ accepts {s} p =
     let ls = linesOf s in
     rw (p .short)
     (append-first (lineAnswers 1 ls) (wholeAnswers ls) (read-lines ls 1 (p .reads))
-    ∙ rw (p .many, p .revision, p .device, p .fits, p .burn, p .inside, p .spots, p .differ))
+    ∙ rw (p .many, p .revision, p .device, p .fits, p .burn, p .spots, p .differ))
 
 pub answer-is : (s : List ℕ) → checkOf s .answer ≡ answerOf s
 unfolding checkOf checkedAs

@@ -11,8 +11,7 @@ use Rattle.image.specs.declared.Walked.the-variants.{Through}
 use Rattle.image.specs.Says.{lineNo}
 use Rattle.summary.specs.Burn.{isBurn}
 use Rattle.image.specs.Tests.{someBelow, burnAt, burnAmiss}
-use Rattle.image.specs.Private.Walk.{noLine, start, factsWith, factsFrom}
-use Rattle.image.specs.Private.Cascade.{burnAmissIn}
+use Rattle.image.specs.Private.Walk.{noLine, start, factsWith, burnAmissIn, factsFrom}
 use Rattle.image.proofs.Holds.{BurnLast}
 use Rattle.promise.proofs.Basics.{or-none}
 use Rattle.image.proofs.Search.{or-false, must-pass, below-first}

@@ -1,15 +1,12 @@
 -- Where all lines are good, what the walk keeps and what is read at places is what the lines say by their numbers.
 -- Assumes nothing.
-use mathlib.Core.Path.{_≡_, refl, sym, ap, _∙_}
-use mathlib.Core.Bool.{true, false, cond}
+use mathlib.Core.Path.{_≡_, refl, ap, _∙_}
 use mathlib.Core.List.{List}
 use Prim.Native.Nat.{ℕ, _-_, _≤_, _<_}
 use native.Mathlib.Omega.{arith}
 use lib.ListN.{length}
-use lib.Dec.{ltb}
-use borrow.Author.Tests.{le-ltb}
 use Rattle.counts.specs.declared.Kind.{Kind}
-use Rattle.counts.specs.Counts.{lineNumber, configNumber, configId, lineCount, configsOf, identifierLine, crcLine}
+use Rattle.counts.specs.Counts.{lineNumber, configNumber, configId, identifierLine, crcLine}
 use Rattle.line.specs.declared.Line.{Line}
 use Rattle.cuts.specs.Lines.{linesOf, placeOf}
 use Rattle.image.specs.declared.Facts.{Facts}
@@ -17,13 +14,12 @@ use Rattle.image.specs.declared.Walked.the-variants.{Through}
 use Rattle.summary.specs.declared.FileAnswer.the-variants.{Accepted}
 use Rattle.summary.specs.declared.Checked.{Checked}
 use Rattle.image.specs.Says.{identityOf, idOf, crcOf, lineNo, fileKind, fileConfigs, idLine, configCrcLine, eightOf, summaryOf}
-use Rattle.image.specs.Tests.{burnAmiss, beyond, otherSpot, sameIds}
+use Rattle.image.specs.Tests.{burnAmiss, otherSpot, sameIds}
 use Rattle.image.specs.Check.{checkedAs}
-use Rattle.image.specs.Private.Walk.{start, factsFrom, lineAt, offSpot, idLineAt, crcLineAt, spotsTo, sameIn}
-use Rattle.image.specs.Private.Cascade.{burnAmissIn, lastBeyond}
+use Rattle.image.specs.Private.Walk.{start, factsFrom, burnAmissIn, lineAt, offSpot, idLineAt, crcLineAt, spotsTo, sameIn}
 use Rattle.image.proofs.Holds.{Holds}
-use Rattle.image.proofs.Search.{below-none, below-same}
-use Rattle.image.proofs.Counting.{count-is, inside, crc-some}
+use Rattle.image.proofs.Search.{below-same}
+use Rattle.image.proofs.Counting.{crc-some}
 use Rattle.image.proofs.WalkSays.{saysOf, says-length, says-at}
 use Rattle.image.proofs.HeldLines.{held, line-is}
 use Rattle.image.proofs.WalkBurns.{facts-are, lines-of, burn-amiss}
@@ -104,15 +100,3 @@ module _ (s : List ℕ) (g : Facts) (whole : factsFrom start (linesOf s) ≡ Thr
           let identity = ap identityOf (line-no 1 (omega arith)) in
           let lines = count in
           rw (isConfigs, isKind) (cc)
-
-      -- both are false: the lines are as many as the configurations take
-      pub not-beyond : 1 ≤ k → lastBeyond kind k (g .lines) ≡ beyond (linesOf s)
-      unfolding lastBeyond beyond fileConfigs
-      not-beyond h =
-          let n = length (linesOf s) in
-          let c : configsOf kind n ≡ k = rw isKind at isConfigs in
-          let e : n ≡ lineCount kind k = rw c at (count-is kind n (omega (arith, c)) .0) in
-          let last : ltb n (crcLine kind (configNumber (k - 1)) .0) ≡ false = le-ltb n _ (inside kind n k (k - 1) e (omega arith) .crc) in
-          let none = below-none (λ N. cond (ltb n (identifierLine kind (configNumber N) .0)) true (ltb n (crcLine kind (configNumber N) .0))) k (λ N u.
-          rw (le-ltb n (identifierLine kind (configNumber N) .0) (inside kind n k N e u .id)) (le-ltb n (crcLine kind (configNumber N) .0) (inside kind n k N e u .crc))) in
-          rw (count, last, isKind, c) (sym none)

@@ -5,31 +5,20 @@ use mathlib.Core.List.{List}
 use Prim.Native.Nat.{ℕ, _+_, _-_, _*_, _%_, _≤_, _<_}
 use native.Mathlib.Omega.{arith}
 use lib.ListN.{length}
-use borrow.Author.Tests.{eqb-true, eq-eqb, eqb-false, ne-eqb, le-ltb, not-false}
+use borrow.Author.Tests.{eqb-true, eq-eqb, eqb-false, ne-eqb, not-false}
 use Rattle.counts.specs.declared.ConfigId.{ConfigId}
 use Rattle.counts.specs.declared.Kind.{Kind}
-use Rattle.counts.specs.Counts.{lineNumber, stepOf, crcPlace, configsOf}
+use Rattle.counts.specs.Counts.{lineNumber, stepOf, crcPlace}
 use Rattle.line.specs.Reading.{lineOf}
 use Rattle.line.specs.declared.Line.{Line}
 use Rattle.promise.proofs.Basics.{split}
 use Rattle.image.specs.Says.{idOf, isC6, fileKind, fileConfigs, idLine, configCrcLine}
 use Rattle.summary.specs.Burn.{isBurn}
-use Rattle.image.specs.Tests.{fitsNone, burnAt, burnAmiss, beyond, otherSpot, sameIds}
+use Rattle.image.specs.Tests.{burnAt, burnAmiss, otherSpot, sameIds}
 use Rattle.image.specs.Meets.{commandIn, dataIn, BurnBytes, numbered, Spelled}
 use Rattle.image.proofs.Search.{none-below, below-none, must-pass}
-use Rattle.image.proofs.Counting.{count-is, inside}
 use Rattle.image.proofs.LineBytes.{burn-bytes, bytes-burn, id-is}
 use Rattle.image.proofs.LinesAndBytes.{Forms, spelled-length, says, id-line, crc-line}
-
--- no file is refused for BEYOND: where n fits a k, the lines of every configuration are within the file
-pub never-beyond : (ls : List (List ℕ)) → fitsNone ls ≡ false → beyond ls ≡ false
-unfolding fitsNone fileConfigs beyond
-never-beyond ls e =
-    let kind = fileKind ls in
-    let n = length ls in
-    let k = configsOf kind n in
-    let count : n ≡ 12 + stepOf kind * k = count-is kind n (omega (arith, eqb-false k 0 e)) .0 in
-    below-none _ k (λ N h. let i = inside kind n k N count h in rw (le-ltb n (stepOf kind * N + 12) (i .id)) (le-ltb n (stepOf kind * N + crcPlace kind) (i .crc)))
 
 -- the burn is the last line, and no earlier one
 pub record BurnLast (vs : List (List ℕ)) : Type 0 where
@@ -86,7 +75,7 @@ module _ {ls vs : List (List ℕ)} (spelled : Spelled ls vs) (forms : Forms vs) 
     pub spots-c6 : otherSpot ls ≡ false → (N : ℕ) → N < k → (commandIn (idBytes vs kind N) ≡ 0xC6) × (commandIn (crcBytes vs kind N) ≡ 0xC6)
     unfolding otherSpot isC6 lineOf
     spots-c6 e N h =
-        let p = must-pass (isC6 (idLine ls N)) (not (isC6 (configCrcLine ls N))) (none-below _ (fileConfigs ls) e N (omega arith)) in (
+        let p = must-pass (isC6 (idLine ls N)) (not (isC6 (configCrcLine ls N))) (none-below _ _ e N (omega arith)) in (
           eqb-true (commandIn (idBytes vs kind N)) 0xC6 (ap isC6 (sym (id-line spelled is N)) ∙ p .0),
           eqb-true (commandIn (crcBytes vs kind N)) 0xC6 (ap isC6 (sym (crc-line spelled is N)) ∙ not-false _ (p .1)),
         )

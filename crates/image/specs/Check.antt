@@ -10,14 +10,15 @@ use Rattle.line.specs.declared.LineReading.the-variants as reading
 use Rattle.cuts.specs.Lines.{linesOf}
 use Rattle.line.specs.Reading.{readLine}
 use Rattle.summary.specs.declared.Whole.{Whole}
-use Rattle.summary.specs.declared.Whole.the-variants.{Size, Count, Revision, Device, Burn, Spot, Beyond, Same}
+use Rattle.summary.specs.declared.Whole.the-variants.{Size, Count, Revision, Device, Burn, Spot, Same}
+use Rattle.summary.specs.declared.Refusal.{Refusal}
 use Rattle.summary.specs.declared.Refusal.the-variants as refusal
 use Rattle.summary.specs.declared.FileAnswer.{FileAnswer}
 use Rattle.summary.specs.declared.FileAnswer.the-variants.{Accepted, Refused}
 use Rattle.summary.specs.declared.Checked.{Checked}
 use Rattle.image.specs.Says.{summaryOf}
 use Rattle.summary.specs.Answers.{noSummary}
-use Rattle.image.specs.Tests.{tooLong, tooFew, otherRevision, otherDevice, fitsNone, burnAmiss, beyond, otherSpot, sameIds}
+use Rattle.image.specs.Tests.{tooLong, tooFew, otherRevision, otherDevice, fitsNone, burnAmiss, otherSpot, sameIds}
 
 -- ---- the order
 
@@ -40,20 +41,23 @@ unfoldable pub lineAnswers : ℕ → List (List ℕ) → List FileAnswer
 lineAnswers n [] = []
 lineAnswers n (t ∷ ts) = lineAnswer (lineNumber n) (readLine (lineNumber n) t) ∷ lineAnswers (n + 1) ts
 
--- 7 for under 13 lines, 8, 9, 7 for n, 10, 12, 11, 13
+-- 7 for under 13 lines, 8, 9, 7 for n, 10, 11, 13; 12 is unused (request R-9)
 unfoldable pub wholeAnswers : List (List ℕ) → List FileAnswer
 wholeAnswers ls =
     refusedIf (tooFew ls) Count ∷ refusedIf (otherRevision ls) Revision ∷ refusedIf (otherDevice ls) Device
-    ∷ refusedIf (fitsNone ls) Count ∷ refusedIf (burnAmiss ls) Burn ∷ refusedIf (beyond ls) Beyond
-    ∷ refusedIf (otherSpot ls) Spot ∷ refusedIf (sameIds ls) Same ∷ []
+    ∷ refusedIf (fitsNone ls) Count ∷ refusedIf (burnAmiss ls) Burn ∷ refusedIf (otherSpot ls) Spot
+    ∷ refusedIf (sameIds ls) Same ∷ []
 
 -- 1; then the first faulty line, and in it 2 to 6; then the whole file's
 unfoldable pub answerOf : List ℕ → FileAnswer
 answerOf s = firstRefusal (refusedIf (tooLong s) Size ∷ (lineAnswers 1 (linesOf s) ++ wholeAnswers (linesOf s)))
 
+abbrev pub refusedBy : Refusal → Checked
+refusedBy r = record { answer = Refused r; summary = noSummary }
+
 unfoldable pub checkedAs : List ℕ → FileAnswer → Checked
 checkedAs s Accepted = record { answer = Accepted; summary = summaryOf s }
-checkedAs s (Refused r) = record { answer = Refused r; summary = noSummary }
+checkedAs s (Refused r) = refusedBy r
 
 unfoldable pub checkOf : List ℕ → Checked
 checkOf s = checkedAs s (answerOf s)

@@ -7,9 +7,9 @@ use lib.ListN.{length}
 use Rattle.promise.specs.Lists.{isIn}
 use Rattle.counts.specs.declared.KindFound.{KindFound}
 use Rattle.counts.specs.declared.KindFound.the-variants.{Is, Unknown}
-use Rattle.counts.specs.Counts.{lineNumber, configNumber, identifierLine, crcLine}
+use Rattle.counts.specs.Counts.{lineNumber}
 use Rattle.line.specs.declared.Line.{Line}
-use Rattle.image.specs.Says.{idOf, isC6, lineNo, revisionSays, fileKind, fileConfigs, idLine, configCrcLine}
+use Rattle.image.specs.Says.{idOf, isC6, lineNo, revisionSays, fileConfigs, idLine, configCrcLine}
 use Rattle.summary.specs.Burn.{isBurn}
 use Rattle.image.specs.Parts.{parts}
 
@@ -55,13 +55,6 @@ module _ (ls : List (List ℕ)) where
   -- BURN: the last line is not the burn, or an earlier one is
   unfoldable pub burnAmiss : Bool
   burnAmiss = cond (burnAt (length ls - 1)) (someBelow (length ls - 1) burnAt) true
-
-  -- BEYOND: an identifier or CRC line lies past line n
-  unfoldable pub beyond : Bool
-  beyond =
-      someBelow (fileConfigs ls) λ N.
-      cond (ltb (length ls) (identifierLine (fileKind ls) (configNumber N) .0)) true
-      (ltb (length ls) (crcLine (fileKind ls) (configNumber N) .0))
 
   -- SPOT: an identifier or CRC line is not C6
   unfoldable pub otherSpot : Bool

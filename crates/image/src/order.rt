@@ -7,7 +7,6 @@ use crate::config_lines::same_in;
 use crate::config_lines::spots_of;
 use crate::device::known_device;
 use crate::says::identity_of;
-use counts::ConfigNumber;
 use counts::Kind;
 use counts::KindFound;
 use counts::LineNumber;
@@ -20,7 +19,11 @@ ghost use mathlib.Core.Path.{_≡_};
 ghost use Prim.Native.Nat.{_≤_};
 ghost use Rattle.pec.specs.Lent.{IsTable};
 ghost use Rattle.line.specs.Digits.{IsDigits};
-ghost use Rattle.image.specs.Private.Cascade.{refusedBy, burnAmissIn, lastBeyond, onSpots, onConfigs, onKind, onFacts, onWalked};
+ghost use Rattle.cuts.specs.Lines.{linesOf};
+ghost use Rattle.image.specs.Says.{revisionSays};
+ghost use Rattle.image.specs.Check.{refusedBy};
+ghost use Rattle.image.specs.Private.Walk.{start, factsFrom, burnAmissIn, spotsTo};
+ghost use Rattle.image.specs.Private.Rest.{AllGood, Counted, restOf, linesThenWhole};
 
 // A refused file says nothing.
 pub(crate) fn refused_by(refusal: Refusal) -> Checked
@@ -32,7 +35,7 @@ pub(crate) fn refused_by(refusal: Refusal) -> Checked
     }
 }
 
-// 11, 13, or accepted.
+// 10, 11, 13, or accepted.
 fn on_spots(
     digits: &[u8; 256],
     table: &[u8; 256],
@@ -42,13 +45,16 @@ fn on_spots(
     k: u8,
     spots: Spots,
 ) -> Checked
-    requires { ⌜ (IsDigits (now digits) × IsTable (now table)) × (k ≤ 8) ⌝ }
-    ensures { λ r. ⌜ r ≡ onSpots (now (s .entry)) f kind k spots ⌝ }
+    requires { ⌜ (IsDigits (now digits) × IsTable (now table)) × Counted (now s) f kind k × (1 ≤ k) × (spots ≡ spotsTo kind (now s) k) ⌝ }
+    ensures { λ r. ⌜ r ≡ restOf 4 (now (s .entry)) ⌝ }
 {
     let ids = spots.ids;
     let crcs = spots.crcs;
     let same = same_in(ids, k as usize);
-    if spots.amiss {
+    let misplaced = burn_amiss(f);
+    if misplaced {
+        refused_by(Refusal::Whole(Whole::Burn))
+    } else if spots.amiss {
         refused_by(Refusal::Whole(Whole::Spot))
     } else if same {
         refused_by(Refusal::Whole(Whole::Same))
@@ -76,16 +82,7 @@ fn burn_amiss(f: Facts) -> bool
     if f.burnt { f.early } else { true }
 }
 
-// An identifier or CRC line lies past the last line. The last of them is the last configuration's CRC line.
-fn beyond(kind: Kind, k: u8, lines: u32) -> bool
-    requires { ⌜ 1 ≤ k ⌝ }
-    ensures { λ r. ⌜ r ≡ lastBeyond kind k lines ⌝ }
-{
-    let last = kind.crc_line(ConfigNumber(k - 1));
-    lines < last.0
-}
-
-// 7 for n, 10, 12.
+// 7 for n.
 fn on_configs(
     digits: &[u8; 256],
     table: &[u8; 256],
@@ -94,15 +91,11 @@ fn on_configs(
     kind: Kind,
     k: u8,
 ) -> Checked
-    requires { ⌜ (IsDigits (now digits) × IsTable (now table)) × (k ≤ 8) ⌝ }
-    ensures { λ r. ⌜ r ≡ onConfigs (now (s .entry)) f kind k ⌝ }
+    requires { ⌜ (IsDigits (now digits) × IsTable (now table)) × Counted (now s) f kind k ⌝ }
+    ensures { λ r. ⌜ r ≡ restOf 3 (now (s .entry)) ⌝ }
 {
     if k == 0 {
         refused_by(Refusal::Whole(Whole::Count))
-    } else if burn_amiss(f) {
-        refused_by(Refusal::Whole(Whole::Burn))
-    } else if beyond(kind, k, f.lines) {
-        refused_by(Refusal::Whole(Whole::Beyond))
     } else {
         let spots = spots_of(digits, table, s, kind, k as usize);
         on_spots(digits, table, s, f, kind, k, spots)
@@ -111,8 +104,8 @@ fn on_configs(
 
 // 8, 9.
 fn on_kind(digits: &[u8; 256], table: &[u8; 256], s: &[u8], f: Facts, found: KindFound) -> Checked
-    requires { ⌜ IsDigits (now digits) × IsTable (now table) ⌝ }
-    ensures { λ r. ⌜ r ≡ onKind (now (s .entry)) f found ⌝ }
+    requires { ⌜ (IsDigits (now digits) × IsTable (now table)) × AllGood (now s) f × (revisionSays (linesOf (now s)) ≡ found) ⌝ }
+    ensures { λ r. ⌜ r ≡ restOf 1 (now (s .entry)) ⌝ }
 {
     match found {
         KindFound::Unknown => refused_by(Refusal::Whole(Whole::Revision)),
@@ -128,8 +121,8 @@ fn on_kind(digits: &[u8; 256], table: &[u8; 256], s: &[u8], f: Facts, found: Kin
 
 // 7 for under 13 lines.
 fn on_facts(digits: &[u8; 256], table: &[u8; 256], s: &[u8], f: Facts) -> Checked
-    requires { ⌜ IsDigits (now digits) × IsTable (now table) ⌝ }
-    ensures { λ r. ⌜ r ≡ onFacts (now (s .entry)) f ⌝ }
+    requires { ⌜ (IsDigits (now digits) × IsTable (now table)) × AllGood (now s) f ⌝ }
+    ensures { λ r. ⌜ r ≡ restOf 0 (now (s .entry)) ⌝ }
 {
     if f.lines < 13 {
         refused_by(Refusal::Whole(Whole::Count))
@@ -141,8 +134,8 @@ fn on_facts(digits: &[u8; 256], table: &[u8; 256], s: &[u8], f: Facts) -> Checke
 
 // 2 to 6, handed on, or the tests of the whole file.
 pub(crate) fn on_walked(digits: &[u8; 256], table: &[u8; 256], s: &[u8], walked: Walked) -> Checked
-    requires { ⌜ IsDigits (now digits) × IsTable (now table) ⌝ }
-    ensures { λ r. ⌜ r ≡ onWalked (now (s .entry)) walked ⌝ }
+    requires { ⌜ (IsDigits (now digits) × IsTable (now table)) × (factsFrom start (linesOf (now s)) ≡ walked) ⌝ }
+    ensures { λ r. ⌜ r ≡ linesThenWhole (now (s .entry)) ⌝ }
 {
     match walked {
         Walked::Through(f) => on_facts(digits, table, s, f),

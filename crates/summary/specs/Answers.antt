@@ -8,7 +8,7 @@ use Rattle.counts.specs.declared.Kind.the-variants.{Legacy}
 use Rattle.counts.specs.Counts.{lineNumber, configNumber, configId}
 use Rattle.line.specs.Reading.{faultNumber}
 use Rattle.summary.specs.declared.Whole.{Whole}
-use Rattle.summary.specs.declared.Whole.the-variants.{Size, Count, Revision, Device, Burn, Spot, Beyond, Same}
+use Rattle.summary.specs.declared.Whole.the-variants.{Size, Count, Revision, Device, Burn, Spot, Same}
 use Rattle.summary.specs.declared.Refusal.{Refusal}
 use Rattle.summary.specs.declared.Refusal.the-variants as refusal
 use Rattle.summary.specs.declared.FileAnswer.{FileAnswer}
@@ -23,6 +23,7 @@ told number line config = record { number = number; line = line; config = config
 abbrev pub plain : ℕ → Told
 plain number = told number (lineNumber 0) (configNumber 0)
 
+-- 12 is unused (request R-9)
 abbrev pub wholeNumber : Whole → ℕ
 wholeNumber Size = 1
 wholeNumber Count = 7
@@ -30,10 +31,9 @@ wholeNumber Revision = 8
 wholeNumber Device = 9
 wholeNumber Burn = 10
 wholeNumber Spot = 11
-wholeNumber Beyond = 12
 wholeNumber Same = 13
 
--- the line is 0 for 1 and 7 to 13
+-- the line is 0 for 1 and from 7 on
 abbrev pub refusalTold : Refusal → Told
 refusalTold (refusal.Line n fault) = told (faultNumber fault) n (configNumber 0)
 refusalTold (refusal.Whole w) = plain (wholeNumber w)

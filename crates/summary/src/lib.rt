@@ -11,7 +11,7 @@ ghost use mathlib.Core.Path.{_≡_};
 ghost use Rattle.summary.specs.Answers.{plain, wholeNumber, refusalTold, answerTold, noSummary};
 ghost use Rattle.summary.specs.Burn.{isBurn};
 
-// The faults of the whole file, numbers 1 and 7 to 13 of document 01, "Numbers for a file".
+// The faults of the whole file, numbers 1, 7 to 11 and 13 of document 01, "Numbers for a file". 12 is unused (request R-9).
 pub enum Whole {
     Size,
     Count,
@@ -19,7 +19,6 @@ pub enum Whole {
     Device,
     Burn,
     Spot,
-    Beyond,
     Same,
 }
 
@@ -83,7 +82,6 @@ impl Whole {
             Whole::Device => 9,
             Whole::Burn => 10,
             Whole::Spot => 11,
-            Whole::Beyond => 12,
             Whole::Same => 13,
         }
     }

@@ -34,6 +34,10 @@ start = record { lines = 0; early = false; burnt = false }
 unfoldable pub factsWith : Facts → Line → Facts
 factsWith f l = record { lines = f .lines + 1; early = cond (f .burnt) true (f .early); burnt = isBurn l }
 
+-- the last line is not the burn, or an earlier one is
+unfoldable pub burnAmissIn : Facts → Bool
+burnAmissIn f = cond (f .burnt) (f .early) true
+
 -- the facts of all lines, or the first faulty one's refusal
 unfoldable pub factsBy : Facts → LineReading → (Facts → Walked) → Walked
 factsBy f (reading.Good l) on = on (factsWith f l)

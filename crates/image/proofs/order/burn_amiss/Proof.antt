@@ -1,6 +1,6 @@
 -- As it is defined. Assumes nothing.
 use Rattle.counts.proofs.Tests.{tests}
-use Rattle.image.specs.Private.Cascade.{burnAmissIn}
+use Rattle.image.specs.Private.Walk.{burnAmissIn}
 use Rattle.image.proofs.order.burn_amiss.Statement.{statement}
 use Rattle.image.proofs.order.burn_amiss.Tie as tie
 

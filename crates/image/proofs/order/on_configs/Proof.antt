@@ -1,54 +1,29 @@
--- The same tests in the same order. Assumes nothing.
-use mathlib.Core.Path.{ap, _∙_}
-use borrow.Author.Tests.{eq-eqb, ne-eqb}
-use Rattle.promise.proofs.Basics.{via}
-use Rattle.image.specs.Private.Cascade.{onConfigs, onSpots}
+-- By the count of the configurations. Assumes nothing.
+use mathlib.Core.Path.{_∙_}
+use Prim.Native.Nat.{_≤_}
+use native.Mathlib.Omega.{arith}
+use Rattle.image.proofs.RestOfTests.{few-configs, none-stops, count-passes}
 use borrow.Author.Needs.{needs}
 use Rattle.image.proofs.order.on_configs.Statement.{statement}
 use Rattle.image.proofs.order.on_configs.Tie as tie
 
+spots-of-requires : tie.Need-spots-of-requires
+spots-of-requires c κs = let a = c .before .before in (a .pre .0, few-configs _ (a .pre .1))
+
+on-spots-requires : tie.Need-on-spots-requires
+on-spots-requires c κs =
+    let a = c .before .before .before in
+    let some : 1 ≤ a .args .k = omega (arith, c .before .if1 .left) in
+    (a .pre .0, a .pre .1, some, c .spots-of .ensures)
+
 returns : tie.Need-returns
-unfolding onConfigs
-returns c = rw (eq-eqb _ _ (c .before .if1 .taken)) (c .refused-by .ensures)
+returns c = c .refused-by .ensures ∙ none-stops _ (c .before .before .before .pre .1) (c .before .if1 .taken)
 
 returns-2 : tie.Need-returns-2
-unfolding onConfigs
-returns-2 c = rw (ne-eqb _ _ (c .before .before .before .if1 .left), via (c .before .before .burn-amiss .ensures) (c .before .if2 .taken)) (c .refused-by2 .ensures)
-
-returns-3 : tie.Need-returns-3
-unfolding onConfigs
-returns-3 c = rw (
-  ne-eqb _ _ (c .before .before .before .before .before .if1 .left),
-  via (c .before .before .before .before .burn-amiss .ensures)
-      (c .before .before .before .if2 .left),
-  via (c .before .before .beyond .ensures) (c .before .if3 .taken),
-) (c .refused-by3 .ensures)
-
-returns-4 : tie.Need-returns-4
-unfolding onConfigs
-returns-4 c =
-    let a = c .before .before .before .before .before .before .before .before .args in
-    rw (
-      ne-eqb _ _ (c .before .before .before .before .before .before .if1 .left),
-      via
-          (c .before .before .before .before .before .burn-amiss .ensures) (c .before .before .before .before .if2 .left),
-      via
-          (c .before .before .before .beyond .ensures) (c .before .before .if3 .left),
-    )
-    (c .on-spots .ensures ∙ ap (onSpots (a .s .now) (a .f) (a .kind) (a .k)) (c .before .spots-of .ensures))
+returns-2 c =
+    let a = c .before .before .before .before in
+    let some : 1 ≤ a .args .k = omega (arith, c .before .before .if1 .left) in
+    c .on-spots .ensures ∙ count-passes _ (a .pre .1) some
 
 pub on-configs-spec : {M : Type 1} → statement M
-on-configs-spec =
-    tie.close
-    (tie.spec
-    (λ c κs. search needs)
-    (λ c κs. search needs)
-    (λ c κs. search needs)
-    (λ c κs. search needs)
-    (λ c κs. search needs)
-    (λ c κs. search needs)
-    (λ c κs. search needs)
-    returns
-    returns-2
-    returns-3
-    returns-4)
+on-configs-spec = tie.close (tie.spec (λ c κs. search needs) spots-of-requires on-spots-requires returns returns-2)

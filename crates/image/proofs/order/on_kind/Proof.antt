@@ -1,44 +1,32 @@
--- The same tests in the same order. Assumes nothing.
-use mathlib.Core.Path.{ap, _∙_}
-use native.Mathlib.Omega.{arith}
+-- By the kind that was found; the first line is read at the start. Assumes nothing.
+use mathlib.Core.Path.{_∙_, ap}
 use Rattle.promise.proofs.Basics.{via}
 use Rattle.image.specs.Tests.{knownDevice}
-use Rattle.image.specs.Private.Cascade.{onKind, onConfigs}
-use Rattle.image.proofs.SpotPlaces.{line-one, configs-le}
+use Rattle.image.proofs.SpotPlaces.{line-one}
+use Rattle.image.proofs.RestOfTests.{revision-stops, device-stops, device-passes, counted}
 use borrow.Author.Needs.{needs}
 use Rattle.image.proofs.order.on_kind.Statement.{statement}
 use Rattle.image.proofs.order.on_kind.Tie as tie
 
 on-configs-requires : tie.Need-on-configs-requires
-on-configs-requires c κs = (
-  c .before .before .before .before .before .before .before .before .pre,
-  omega (
-    arith,
-    c .configs .ensures,
-    configs-le
-        (c .before .before .before .before .before .found .given .0 .0)
-        (c .before .before .before .before .before .before .before .before .args .f .lines),
-  ),
-)
+on-configs-requires c κs =
+    let a = c .before .before .before .before .before .before .before .before in
+    (a .pre .0, rw (c .configs .ensures) (counted _ (a .pre .1) (a .pre .2 ∙ c .before .before .before .before .before .found .given .1)))
 
 returns : tie.Need-returns
-unfolding onKind
-returns c = rw (c .before .enum-told .given .1) (c .refused-by .ensures)
+returns c = c .refused-by .ensures ∙ revision-stops _ (c .before .before .before .before .pre .1) (c .before .before .before .before .pre .2 ∙ c .before .enum-told .given .1)
 
 returns-2 : tie.Need-returns-2
-unfolding onKind
 returns-2 c =
-    let a = c .before .before .before .before .before .before .before .before .before .args in
-    let known = via (c .before .before .before .known-device .ensures ∙ ap knownDevice (c .before .before .before .before .line-at .ensures
-    ∙ line-one (a .s .now))) (c .before .before .if1 .taken) in
-    rw (c .before .before .before .before .before .before .found .given .1, known) (c .on-configs .ensures ∙ ap (onConfigs (a .s .now) (a .f) _) (c .before .configs .ensures))
+    let a = c .before .before .before .before .before .before .before .before .before in
+    let known = via (c .before .before .before .known-device .ensures ∙ ap knownDevice (c .before .before .before .before .line-at .ensures ∙ line-one (a .args .s .now))) (c .before .before .if1 .taken) in
+    c .on-configs .ensures ∙ device-passes _ (a .pre .1) (a .pre .2 ∙ c .before .before .before .before .before .before .found .given .1) known
 
 returns-3 : tie.Need-returns-3
-unfolding onKind
 returns-3 c =
-    let a = c .before .before .before .before .before .before .before .before .args in
-    let known = via (c .before .before .known-device .ensures ∙ ap knownDevice (c .before .before .before .line-at .ensures ∙ line-one (a .s .now))) (c .before .if1 .left) in
-    rw (c .before .before .before .before .before .found .given .1, known) (c .refused-by2 .ensures)
+    let a = c .before .before .before .before .before .before .before .before in
+    let known = via (c .before .before .known-device .ensures ∙ ap knownDevice (c .before .before .before .line-at .ensures ∙ line-one (a .args .s .now))) (c .before .if1 .left) in
+    c .refused-by2 .ensures ∙ device-stops _ (a .pre .1) (a .pre .2 ∙ c .before .before .before .before .before .found .given .1) known
 
 pub on-kind-spec : {M : Type 1} → statement M
 on-kind-spec =
