@@ -1,7 +1,7 @@
 -- The guide's requests byte by byte, and step 6 by the lines of the file. Assumes nothing.
-use mathlib.Core.Path.{_≡_, refl, sym, ap, _∙_}
-use mathlib.Core.List.{List, [], _∷_}
-use Prim.Native.Nat.{ℕ, zero, suc, _+_, _*_, _%_, _≤_, _<_}
+use mathlib.Core.Path.{_≡_, refl, ap, _∙_}
+use mathlib.Core.List.{List}
+use Prim.Native.Nat.{ℕ, zero, suc, _+_, _%_, _≤_, _<_}
 use native.Mathlib.Omega.{arith}
 use Rattle.pec.specs.Pec.{topBit, shift, shifts, remainder, step, pecFrom}
 use Rattle.counts.specs.declared.ConfigId.{ConfigId}
@@ -13,7 +13,6 @@ use Rattle.image.proofs.SummarySays.{summary-says}
 use Rattle.bus.specs.Bus.{eight, framed, writeOf, readAddress, readOf}
 use Rattle.guide.specs.Terms.{Terms}
 use Rattle.guide.specs.Guide.{idIn, crcIn}
-use Rattle.guide.specs.Matched.{Exchange}
 use Rattle.guide.specs.Statements.{heard6}
 use Rattle.session.specs.declared.Settings.{Settings}
 use Rattle.session.specs.Terms.{termsOf}
