@@ -25,6 +25,7 @@ pub mod FifteenExactly
 pub mod CarriesOn
 pub mod BeginsSo
 pub mod FourteenExactly
+pub mod NoReport12
 pub mod AsAsked
 pub mod Blind
 pub mod InBytes

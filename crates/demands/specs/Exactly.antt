@@ -27,6 +27,7 @@ use Rattle.session.specs.declared.Handed.{Handed}
 use Rattle.session.specs.declared.Stage.the-variants.{Open, Ended}
 use Rattle.session.specs.declared.Awaited.{Awaited}
 use Rattle.session.specs.declared.Awaited.the-variants.{RevisionRead, LineOut}
+use Rattle.session.specs.declared.Answer.{Answer}
 use Rattle.session.specs.declared.Answer.the-variants.{Next, Over, BadState}
 use Rattle.session.specs.declared.Report.the-variants.{Is}
 use Rattle.session.specs.Terms.{keptOf}
@@ -139,3 +140,9 @@ module _ (S : Settings) (text : List ℕ) where
 
   unfoldable pub BeginsSo : Type 0
   BeginsSo = Begun (beginOf S text)
+
+-- ---- of any answer
+
+-- no report has the number 12 (request R-9)
+unfoldable pub NoReport12 : Answer → Type 0
+NoReport12 a = (t : Told) → reportOf a ≡ Is t → t .number ≡ 12 → ⊥

@@ -8,6 +8,7 @@ pub mod LinesAndBytes
 pub mod WholeTests
 pub mod MeetsPass
 pub mod AcceptedExactly
+pub mod Unused12
 pub mod SummarySays
 pub mod WalkSteps
 pub mod SpotPlaces

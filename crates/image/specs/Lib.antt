@@ -3,4 +3,5 @@ pub mod Says
 pub mod Tests
 pub mod Check
 pub mod Meets
+pub mod Unused
 pub mod Private
