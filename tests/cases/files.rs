@@ -132,6 +132,7 @@ impl Files {
     fn whole_cases(&mut self) {
         self.few_lines();
         self.line_counts();
+        self.ends_before_spots();
         self.counts_beyond_eight();
         self.identities();
         self.revisions();

@@ -55,10 +55,14 @@ pub fn told(name: &str, result: io::Result<()>) -> io::Result<()> {
     result
 }
 
+/// The number that nothing has: the page had it for a line past the file's end (request R-9).
+const UNUSED: u8 = 12;
+
 /// What is wrong with an ending, though both sides may agree on it.
 pub fn fault_of(case: &Case, ending: Option<Ending>) -> Option<String> {
     match (case.made, ending) {
         (_, None) => Some("it is no answer".into()),
+        (_, Some(Ending::Number { number: UNUSED, .. })) => Some("12 is unused".into()),
         (Made::Unsaid, _) => Some("the label does not say what the case was made for".into()),
         (Made::For(made), Some(ending)) if made != ending => Some(format!(
             "the case was made for {made}, and both give {ending}"

@@ -15,7 +15,7 @@ pub const SHOW: Printing = Printing {
     floor: FLOOR,
 };
 
-/// 12 is unused (request R-9).
+/// All but 12, which is unused (request R-9).
 pub const FLOOR: Floor = Floor {
     cases: 1_500,
     times: 20,

@@ -71,6 +71,26 @@ impl Files {
         }
     }
 
+    /// Files that end before the last configuration's identifier line or its CRC line, with the
+    /// burn last: a line past the end has no number of its own (request R-9).
+    pub(super) fn ends_before_spots(&mut self) {
+        for kind in BOTH {
+            for k in 1..=8 {
+                let draft = self.draft(kind, k);
+                let spots = [
+                    ("identifier", draft.id_line(k - 1)),
+                    ("crc", draft.crc_line(k - 1)),
+                ];
+                for (name, spot) in spots {
+                    let mut short = draft.clone();
+                    short.lines.truncate(spot - 1);
+                    short.set(spot - 1, burn());
+                    self.put_whole(COUNT, &format!("k{k}-ends-before-{name}-line"), &short);
+                }
+            }
+        }
+    }
+
     pub(super) fn counts_beyond_eight(&mut self) {
         for kind in BOTH {
             for k in [9, 10, 11] {
