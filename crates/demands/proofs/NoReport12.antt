@@ -4,7 +4,6 @@ use mathlib.Core.Path.{_≡_, ap, _∙_}
 use native.Mathlib.Omega.{arith}
 use lib.Dec.{lit≤}
 use Rattle.summary.specs.declared.Told.{Told}
-use Rattle.summary.specs.Answers.{plain}
 use Rattle.summary.proofs.Numbers.{refusal-number}
 use Rattle.guide.specs.declared.Reason.{Reason}
 use Rattle.guide.specs.declared.Reason.the-variants.{Nack, Shape, Pec, Counter, Identity, Flag, Old, OtherKind, Places, Program, Banks}
@@ -45,4 +44,4 @@ pub no-report-12 : (a : Answer) → NoReport12 a
 unfolding NoReport12 reportOf
 no-report-12 Next t e n = let z : _≡_ {A = ℕ} 0 1 = cc in omega arith
 no-report-12 (Over v) t e n = told-not (verdictTold v) t (verdict-not v) e n
-no-report-12 BadState t e n = told-not (plain 15) t (λ (f : 15 ≡ 12). omega arith) e n
+no-report-12 BadState t e n = told-not _ t (λ f. omega (arith, f)) e n

@@ -12,18 +12,16 @@ use Rattle.line.specs.declared.Line.{Line}
 use Rattle.counts.specs.declared.Kind.{Kind}
 use Rattle.counts.specs.declared.KindFound.the-variants.{Is, Unknown}
 use Rattle.counts.specs.Counts.{lineNumber, kindOf, configsOf}
-use Rattle.cuts.specs.Lines.{linesOf, placeOf}
+use Rattle.cuts.specs.Lines.{linesOf}
 use Rattle.summary.specs.declared.Whole.{Whole}
 use Rattle.summary.specs.declared.Whole.the-variants.{Count, Revision, Device, Burn, Spot, Same}
 use Rattle.summary.specs.declared.Refusal.{Refusal}
 use Rattle.summary.specs.declared.Refusal.the-variants as refusal
 use Rattle.summary.specs.declared.FileAnswer.{FileAnswer}
 use Rattle.summary.specs.declared.FileAnswer.the-variants.{Accepted}
-use Rattle.summary.specs.declared.Checked.{Checked}
 use Rattle.image.specs.declared.Facts.{Facts}
-use Rattle.image.specs.declared.Spots.{Spots}
 use Rattle.image.specs.declared.Walked.the-variants.{Bad}
-use Rattle.image.specs.Says.{identityOf, kindIn, revisionSays, fileKind, fileConfigs}
+use Rattle.image.specs.Says.{kindIn, revisionSays, fileKind, fileConfigs}
 use Rattle.image.specs.Tests.{knownDevice, isUnknown, tooFew, otherRevision, otherDevice, fitsNone, burnAmiss, otherSpot, sameIds}
 use Rattle.image.specs.Check.{refusedIf, firstRefusal, wholeAnswers, refusedBy, checkedAs}
 use Rattle.image.specs.Private.Walk.{start, factsFrom, burnAmissIn, lineAt, spotsTo, sameIn}
@@ -31,7 +29,7 @@ use Rattle.image.specs.Private.Rest.{AllGood, Counted, restOf, linesThen
 use Rattle.image.proofs.SpotPlaces.{configs-le}
 use Rattle.image.proofs.Counting.{count-is, many-lines}
 use Rattle.image.proofs.WalkSays.{answerBy, walked-first}
-use Rattle.image.proofs.WalkKeeps.{line-no, count, burn, other-spot, same-ids, said}
+use Rattle.image.proofs.WalkKeeps.{line-no, count, burn, other-spot, same-ids}
 
 module _ (s : List ℕ) (w : Whole) (more : List FileAnswer) where
   pub stops : {t : Bool} → t ≡ true → refusedBy (refusal.Whole w) ≡ checkedAs s (firstRefusal (refusedIf t w ∷ more))
@@ -153,16 +151,7 @@ module _ (s : List ℕ) {f : Facts} {kind : Kind} {k : ℕ} (c : Counted s f kin
         unfolding restOf wholeAnswers
         same-stops e = stops s Same _ (sym same-is ∙ e) ∙ spot-passes
 
-        -- no test is left: what is handed back with an accepted file
-        pub accepts : sameIn (spotsTo kind s k .ids) k ≡ false → {identity line5 : ℕ} {spots : Spots}
-            → identity ≡ identityOf (lineAt (lineNumber 1) s) → line5 ≡ placeOf 4 s → spotsTo kind s k ≡ spots
-            → _≡_ {A = Checked}
-            (record {
-              answer = Accepted;
-              summary = record { kind = kind; identity = identity; lines = f .lines; configs = k; line5 = line5; ids = spots .ids; crcs = spots .crcs };
-            })
-            (restOf 4 s)
+        -- no test is left
+        pub accepts : sameIn (spotsTo kind s k .ids) k ≡ false → checkedAs s Accepted ≡ restOf 4 s
         unfolding restOf wholeAnswers firstRefusal
-        accepts e p q r =
-            rw (p, q, ← r) (said s f (c .good) kind (c .is) k (c .configs) few-configs)
-            ∙ (passes s Same [] (sym same-is ∙ e) ∙ spot-passes)
+        accepts e = passes s Same [] (sym same-is ∙ e) ∙ spot-passes

@@ -10,6 +10,7 @@ use Rattle.counts.specs.Counts.{lineNumber, configNumber, configId, identifierL
 use Rattle.line.specs.declared.Line.{Line}
 use Rattle.cuts.specs.Lines.{linesOf, placeOf}
 use Rattle.image.specs.declared.Facts.{Facts}
+use Rattle.image.specs.declared.Spots.{Spots}
 use Rattle.image.specs.declared.Walked.the-variants.{Through}
 use Rattle.summary.specs.declared.FileAnswer.the-variants.{Accepted}
 use Rattle.summary.specs.declared.Checked.{Checked}
@@ -77,26 +78,18 @@ module _ (s : List ℕ) (g : Facts) (whole : factsFrom start (linesOf s) ≡ Thr
       unfolding sameIds
       same-ids = rw (ids-said, isConfigs) (same-is (λ N. idOf (idLine (linesOf s) N)) k few)
 
-      -- what is said where no test is true
-      pub said : _≡_ {A = Checked}
+      -- what is said where no test is true, by what is read for it
+      pub said : {identity line5 : ℕ} {spots : Spots} → identity ≡ identityOf (lineAt (lineNumber 1) s) → line5 ≡ placeOf 4 s → spotsTo kind s k ≡ spots
+          → _≡_ {A = Checked}
           (record {
             answer = Accepted;
-            summary =
-                record {
-                  kind = kind;
-                  identity = identityOf (lineAt (lineNumber 1) s);
-                  lines = g .lines;
-                  configs = k;
-                  line5 = placeOf 4 s;
-                  ids = spotsTo kind s k .ids;
-                  crcs = spotsTo kind s k .crcs;
-                };
+            summary = record { kind = kind; identity = identity; lines = g .lines; configs = k; line5 = line5; ids = spots .ids; crcs = spots .crcs };
           })
           (checkedAs s Accepted)
       unfolding checkedAs summaryOf
-      said =
+      said p q r =
           let ids = ids-said in
           let crcs = crcs-said in
           let identity = ap identityOf (line-no 1 (omega arith)) in
           let lines = count in
-          rw (isConfigs, isKind) (cc)
+          rw (p, q, ← r, isConfigs, isKind) (cc)

@@ -7,6 +7,7 @@ use Rattle.image.specs.declared.Spots.{Spots}
 use Rattle.image.specs.Says.{identityOf}
 use Rattle.image.specs.Private.Walk.{lineAt, sameIn}
 use Rattle.image.proofs.SpotPlaces.{line-one, place-from}
+use Rattle.image.proofs.WalkKeeps.{said}
 use Rattle.image.proofs.RestOfTests.{few-configs, burn-stops, spot-stops, same-stops, accepts}
 use borrow.Author.Needs.{needs}
 use Rattle.image.proofs.order.on_spots.Statement.{statement}
@@ -45,7 +46,8 @@ returns-4 c =
     let identity : c .before .identity-of .result ≡ identityOf (lineAt (lineNumber 1) s) =
     c .before .identity-of .ensures ∙ ap identityOf (c .before .before .line-at .ensures ∙ line-one s) in
     let fifth : c .skip .result ≡ placeOf 4 s = c .skip .ensures ∙ place-from 4 s in
-    accepts s (a .pre .1) (a .pre .2) once amiss same identity fifth (sym spots)
+    let d = a .pre .1 in
+    said s (a .args .f) (d .good) _ (d .is) _ (d .configs) (few-configs s d) identity fifth (sym spots) ∙ accepts s d (a .pre .2) once amiss same
 
 pub on-spots-spec : {M : Type 1} → statement M
 on-spots-spec =
