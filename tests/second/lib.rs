@@ -1,5 +1,5 @@
 //! The second program: the behaviour of the page "What to build and its rules", written a second
-//! time from the page alone, to be compared with the first.
+//! time from the documents alone, to be compared with the first.
 //!
 //! Section names in the comments are those of the page. The ways in are the functions named here,
 //! one for each answer that is compared.

@@ -1,5 +1,5 @@
--- Number 12 is unused (request R-9). Document 01 had it for a file with an identifier or CRC line past its last line, behind COUNT:
--- no text is such a file. No promise cites this page: proofs/ shows each of these. Assumes nothing.
+-- Number 12 is unused. Document 01 gives it, behind COUNT, to a file with an identifier or CRC line past its last line; no text is such a
+-- file, and request R-9 takes it out. No promise cites this page: proofs/ shows each of these. Assumes nothing.
 use mathlib.Core.Path.{_≡_}
 use mathlib.Core.List.{List}
 use Prim.Native.Nat.{ℕ, _+_, _*_, _≤_, _<_}

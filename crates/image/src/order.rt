@@ -1,4 +1,4 @@
-// The tests of the whole file in the order of document 01, "Numbers for a file".
+// The tests of the whole file in the order of document 01, "Numbers for a file", less 12, which is unused (request R-9).
 use crate::Facts;
 use crate::Spots;
 use crate::Walked;
