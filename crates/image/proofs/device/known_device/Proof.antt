@@ -9,10 +9,10 @@ use Rattle.image.proofs.device.known_device.Tie as tie
 returns : tie.Need-returns
 unfolding knownDevice
 returns c = simp (
-  eq-eqb _ _ (c .before .before .before .before .before .before .if1 .taken),
-  eq-eqb _ _ (c .before .before .before .before .if2 .taken),
-  eq-eqb _ _ (c .before .before .if3 .taken),
-) (c .is-in .ensures)
+  eq-eqb _ _ (c .before .before .before .before .before .if1 .taken),
+  eq-eqb _ _ (c .before .before .before .if2 .taken),
+  eq-eqb _ _ (c .before .if3 .taken),
+) (c .known-part .ensures)
 
 returns-2 : tie.Need-returns-2
 unfolding knownDevice
@@ -27,5 +27,4 @@ unfolding knownDevice
 returns-4 c = search tests
 
 pub known-device-spec : {M : Type 1} → statement M
-known-device-spec =
-    tie.close (tie.spec (λ c. search needs) (λ c κs. search needs) returns returns-2 returns-3 returns-4)
+known-device-spec = tie.close (tie.spec (λ c κs. search needs) returns returns-2 returns-3 returns-4)
