@@ -9,6 +9,7 @@ pub mod WholeTests
 pub mod MeetsPass
 pub mod AcceptedExactly
 pub mod Unused12
+pub mod Printed
 pub mod SummarySays
 pub mod WalkSteps
 pub mod SpotPlaces

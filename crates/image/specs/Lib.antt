@@ -4,4 +4,5 @@ pub mod Tests
 pub mod Check
 pub mod Meets
 pub mod Unused
+pub mod Printed
 pub mod Private
