@@ -6,7 +6,7 @@ ghost use Rattle.image.specs.Parts.{parts};
 ghost use Rattle.image.specs.Tests.{knownDevice};
 
 // Whether a middle byte is that of an accepted part: an arm for each row of the guide's table "Supported Devices", in its order, with
-// the part's name and whole identity behind it.
+// the part's name and whole identity behind it. docs/PARTS.md has the rows to sign, and tests/check-parts compares.
 fn known_part(middle: u8) -> bool
     ensures { λ r. ⌜ r ≡ isIn middle parts ⌝ }
 {
