@@ -8,6 +8,7 @@ mod changes;
 mod difference;
 mod entries;
 mod fuzz;
+mod identities;
 mod made;
 mod pec;
 mod printing;

@@ -1,10 +1,11 @@
-//! The C entry tehilgam_refusal against the second program, on seeded files.
+//! The C entry tehilgam_refusal against the second program, on seeded files and on identities.
 
 use std::io;
 
 use cases::{Case, Ending, Made};
 
 use crate::entries::{Entries, Entry};
+use crate::identities::each_is_judged;
 use crate::programs::Program;
 use crate::seeded::{compare_all, fault_of, settled, tally};
 use crate::show::FLOOR;
@@ -20,7 +21,8 @@ pub fn run(seed: Option<u64>) -> Judged {
     let tally = tally("refusal", seed);
     compare_all(&tally, &cases, || Entries::start(&program), answers);
     let enough = settled(&tally, "files", &cases, &FLOOR);
-    Ok(null_pointer_is_no_text(&program) && enough)
+    let identities = each_is_judged(&program, seed);
+    Ok(null_pointer_is_no_text(&program) && identities && enough)
 }
 
 /// The entry gives a number alone, so a case's line is taken as it was made.
