@@ -3,7 +3,7 @@
 
 use std::io;
 
-use cases::draft::{Draft, Kind};
+use cases::draft::{identity_of, Draft, Kind};
 use cases::line::header;
 use cases::random::Rng;
 
@@ -64,7 +64,7 @@ fn compare(tally: &Tally, program: &Program, seed: u64) -> io::Result<()> {
 /// 49D2xx00 for each xx, and each of these with another byte in one of the three other places.
 fn identities() -> impl Iterator<Item = [u8; 4]> {
     (0..=255u8).flat_map(|middle| {
-        let whole = [0x49, 0xD2, middle, 0x00];
+        let whole = identity_of(middle);
         let others = [0, 1, 3].into_iter().flat_map(move |place| {
             (0..=255u8)
                 .filter(move |&byte| byte != whole[place])
