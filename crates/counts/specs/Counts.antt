@@ -3,6 +3,7 @@ use Prim.Native.Nat.{ℕ, _+_, _*_, _/_, _%_}
 use mathlib.Core.Bool.{cond}
 use lib.Dec.{eqb, ltb, leb}
 use Rattle.counts.specs.declared.LineNumber.{LineNumber}
+use Rattle.counts.specs.declared.Place.{Place}
 use Rattle.counts.specs.declared.ConfigNumber.{ConfigNumber}
 use Rattle.counts.specs.declared.ConfigId.{ConfigId}
 use Rattle.counts.specs.declared.Bank.{Bank}
@@ -14,6 +15,9 @@ use Rattle.counts.specs.declared.KindFound.the-variants.{Is, Unknown}
 -- numbers as counts, where a number is meant as one
 abbrev pub lineNumber : ℕ → LineNumber
 lineNumber n = record { 0 = n }
+
+abbrev pub linePlace : ℕ → Place
+linePlace p = record { 0 = p }
 
 abbrev pub configNumber : ℕ → ConfigNumber
 configNumber N = record { 0 = N }

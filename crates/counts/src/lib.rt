@@ -1,11 +1,14 @@
-// The four counts that the guide keeps apart, the two kinds of file, and the file's own formulas between them (document 01,
-// "The whole file"). Nothing else turns one count into another.
+// The four counts that the guide keeps apart, the place in a line, the two kinds of file, and the file's own formulas between the
+// counts (document 01, "The whole file"). Nothing else turns one count into another.
 ghost use mathlib.Core.Path.{_≡_};
 ghost use Prim.Native.Nat.{_+_, _-_};
 ghost use Rattle.counts.specs.Counts.{kindOf, lineCount, configsOf, upTo8, identifierLine, crcLine, bankOf, firstLine, stepOf, crcPlace};
 
 // A line of the file, counted from 1; 0 where a refusal names no line.
 pub struct LineNumber(pub u32);
+
+// A place in a line, in bytes, counted from 1; 0 where a refusal names no line (request R-1). No formula leads to it or from it.
+pub struct Place(pub usize);
 
 // A configuration of the file, counted from 0.
 pub struct ConfigNumber(pub u8);

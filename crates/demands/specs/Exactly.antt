@@ -128,12 +128,12 @@ pub record Begun (h : Handed) : Type 0 where
   pub never : h .answer ≡ BadState → ⊥
 
 module _ (S : Settings) (text : List ℕ) where
-  -- 14 exactly where a setting is out of its range, whatever the file; with line 0 and N 0
+  -- 14 exactly where a setting is out of its range, whatever the file; with line 0, place 0 and N 0
   pub record FourteenExactly : Type 0 where
     pub only : (t : Told) → reportOf (beginOf S text .answer) ≡ Is t → t .number ≡ 14 → SettingOut S
     pub when : SettingOut S → reportOf (beginOf S text .answer) ≡ Is (plain 14)
 
-  -- where the settings are in their ranges and the file is refused, the report has the file's own number and line
+  -- where the settings are in their ranges and the file is refused, the report has the file's own number, line and place
   unfoldable pub ReportsFile : Type 0
   ReportsFile =
       (SettingOut S → ⊥) → (answerTold (checkOf text .answer) .number ≡ 0 → ⊥) → reportOf (beginOf S text .answer) ≡ Is (answerTold (checkOf text .answer))

@@ -34,11 +34,12 @@ unfolding requestLine bytesOf
 request-length q =
     simp length-append (omega (arith, verb-length (q .reads), used-length (q .bytes) (atMost8 (q .used)), at-most-8 (q .used)))
 
-pub report-length : (r : Report) → length (reportLine r) ≤ 64
+pub report-length : (r : Report) → length (reportLine r) ≤ 112
 unfolding reportLine bytesOf
 report-length Waiting = omega arith
 report-length (Is t) =
-    simp length-append (omega (arith, decimal-length (t .number), decimal-length (t .config .0), decimal-length (t .line .0)))
+    simp length-append
+    (omega (arith, decimal-length (t .number), decimal-length (t .config .0), decimal-length (t .line .0), decimal-length (t .place .0)))
 
 mark-length : (burned : Bool) → length (mark burned) ≤ 2
 unfolding mark bytesOf

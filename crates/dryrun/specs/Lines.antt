@@ -27,9 +27,10 @@ requestLine q = verb (q .reads) ++ usedHex (q .bytes) (atMost8 (q .used)) ++ lin
 
 unfoldable pub reportLine : Report → List ℕ
 reportLine Waiting = bytesOf "waiting" ++ lineEnd
--- verdict NUMBER config N line LINE
+-- verdict NUMBER config N line LINE at PLACE
 reportLine (Is t) =
-    bytesOf "verdict " ++ decimal (t .number) ++ bytesOf " config " ++ decimal (t .config .0) ++ bytesOf " line " ++ decimal (t .line .0) ++ lineEnd
+    bytesOf "verdict " ++ decimal (t .number) ++ bytesOf " config " ++ decimal (t .config .0) ++ bytesOf " line " ++ decimal (t .line .0)
+    ++ bytesOf " at " ++ decimal (t .place .0) ++ lineEnd
 
 unfoldable pub mark : Bool → List ℕ
 mark true = bytesOf "1" ++ lineEnd

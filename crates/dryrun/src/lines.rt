@@ -53,19 +53,21 @@ pub fn put_request(out: &mut [u8; 32], q: Request) -> usize
 }
 
 // How the session stands.
-pub fn put_report(out: &mut [u8; 64], report: Report) -> usize
+pub fn put_report(out: &mut [u8; 112], report: Report) -> usize
     ensures { λ r. ⌜ Puts (now (out .entry)) 0 (reportLine report) (now (out .exit)) r ⌝ }
 {
     match report {
         Report::Waiting => put_bytes(out, 0, b"waiting\n"),
         Report::Is(told) => {
             let a = put_bytes(out, 0, b"verdict ");
-            let b = put_decimal(out, a, told.number as u32);
+            let b = put_decimal(out, a, told.number as u64);
             let c = put_bytes(out, b, b" config ");
-            let d = put_decimal(out, c, told.config.0 as u32);
+            let d = put_decimal(out, c, told.config.0 as u64);
             let e = put_bytes(out, d, b" line ");
-            let f = put_decimal(out, e, told.line.0);
-            put_bytes(out, f, b"\n")
+            let f = put_decimal(out, e, told.line.0 as u64);
+            let g = put_bytes(out, f, b" at ");
+            let h = put_decimal(out, g, told.place.0 as u64);
+            put_bytes(out, h, b"\n")
         }
     }
 }
@@ -85,7 +87,7 @@ pub fn put_count(out: &mut [u8; 64], sent: u32, burned: bool) -> usize
     ensures { λ r. ⌜ Puts (now (out .entry)) 0 (countLine sent burned) (now (out .exit)) r ⌝ }
 {
     let a = put_bytes(out, 0, b"count ");
-    let b = put_decimal(out, a, sent);
+    let b = put_decimal(out, a, sent as u64);
     let c = put_bytes(out, b, b" burn ");
     put_mark(out, c, burned)
 }

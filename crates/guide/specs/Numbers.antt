@@ -1,6 +1,6 @@
 -- What is told of each verdict, in document 01's numbers ("The session", its table). Assumes nothing.
 use Prim.Native.Nat.{ℕ}
-use Rattle.counts.specs.Counts.{lineNumber}
+use Rattle.counts.specs.Counts.{lineNumber, linePlace}
 use Rattle.summary.specs.declared.Told.{Told}
 use Rattle.summary.specs.Answers.{told, plain, refusalTold}
 use Rattle.guide.specs.declared.Reason.{Reason}
@@ -21,10 +21,10 @@ reasonNumber Places = 28
 reasonNumber Program = 29
 reasonNumber Banks = 30
 
--- a refused file's line; N is 0 unless the verdict is 31
+-- a refused file's line and place; N is 0 unless the verdict is 31
 abbrev pub verdictTold : Verdict → Told
 verdictTold Done = plain 0
 verdictTold Setting = plain 14
 verdictTold (File r) = refusalTold r
-verdictTold (Mismatch N) = told 31 (lineNumber 0) N
+verdictTold (Mismatch N) = told 31 (lineNumber 0) (linePlace 0) N
 verdictTold (Halted r) = plain (reasonNumber r)

@@ -1,4 +1,4 @@
-// What is told of a verdict: document 01's number, a refused file's line, and the N of 31.
+// What is told of a verdict: document 01's number, a refused file's line and the place in it, and the N of 31.
 use crate::Reason;
 use crate::Verdict;
 use summary::Told;

@@ -54,7 +54,7 @@ pub record Reads (n : LineNumber) (t : List ℕ) : Type 0 where
 line-reads : (n : LineNumber) (t : List ℕ) (r : LineReading) → readLine n t ≡ r → lineAnswer n r ≡ Accepted → Reads n t
 unfolding lineAnswer
 line-reads n t (reading.Good l) p e = record { line = l; good = p }
-line-reads n t (reading.Refused fault) p e = refused _ e
+line-reads n t (reading.Refused r) p e = refused _ e
 
 pub lines-read : (ts : List (List ℕ)) (n : ℕ) → firstRefusal (lineAnswers n ts) ≡ Accepted → (i : ℕ) → i < length ts → Reads (lineNumber (n + i)) (getD ts i [])
 unfolding lineAnswers

@@ -1,20 +1,16 @@
 -- A good line says what its bytes say; so where all lines are good, the walk's end is known. Assumes nothing.
 use mathlib.Core.Path.{_≡_, refl, ap, _∙_}
-use mathlib.Core.Bool.{Bool, true, false, cond}
 use mathlib.Core.List.{List, [], _∷_, _++_}
 use Prim.Native.Nat.{ℕ, zero, suc, _+_}
 use native.Mathlib.Omega.{arith}
 use lib.ListN.{length, getD}
-use Rattle.pec.specs.Pec.{pec}
-use Rattle.counts.specs.declared.LineNumber.{LineNumber}
 use Rattle.counts.specs.Counts.{lineNumber}
 use Rattle.line.specs.declared.Line.{Line}
-use Rattle.line.specs.declared.Fault.{Fault}
-use Rattle.line.specs.declared.Fault.the-variants.{Char, Pairs, Length, Crc, Form}
 use Rattle.line.specs.declared.LineReading.{LineReading}
 use Rattle.line.specs.declared.LineReading.the-variants.{Good, Refused}
-use Rattle.line.specs.Digits.{digitVal, allDigits, valuesOf}
-use Rattle.line.specs.Reading.{lineOf, badPairs, lengthRight, crcRight, formRight, readValues, readDigits, readLine}
+use Rattle.line.specs.Digits.{digitVal, valuesOf}
+use Rattle.line.specs.Reading.{lineOf, readLine}
+use Rattle.line.proofs.GoodExactly.{good-form}
 use Rattle.image.specs.declared.Facts.{Facts}
 use Rattle.image.specs.declared.Walked.{Walked}
 use Rattle.image.specs.declared.Walked.the-variants.{Through, Bad}
@@ -42,26 +38,6 @@ says-at [] i = refl
 says-at (t ∷ ts) zero = refl
 says-at (t ∷ ts) (suc i) = says-at ts i
 
--- ---- a good line passed its tests
-passes : (b : Bool) (x : LineReading) (f : Fault) (l : Line) → cond b x (Refused f) ≡ Good l → x ≡ Good l
-passes true x f l e = e
-passes false x f l e = cc
-
-good-says : (n : LineNumber) (t : List ℕ) (l : Line) → readLine n t ≡ Good l → l ≡ lineSays t
-unfolding readLine readDigits readValues
-good-says n t l e =
-    let v = valuesOf digitVal t in
-    let e1 = passes (allDigits digitVal t) (readDigits digitVal pec n t) Char l e in
-    let e2 = kept (badPairs (length t)) (readValues pec n v) e1 in
-    let e3 = passes (lengthRight v) (cond (crcRight pec v) (cond (formRight n v) (Good (lineOf v)) (Refused Form)) (Refused Crc)) Length l e2 in
-    let e4 = passes (crcRight pec v) (cond (formRight n v) (Good (lineOf v)) (Refused Form)) Crc l e3 in
-    let e5 : Good (lineOf v) ≡ Good l = passes (formRight n v) (Good (lineOf v)) Form l e4 in
-    cc
-  where
-    kept : (b : Bool) (x : LineReading) → cond b (Refused Pairs) x ≡ Good l → x ≡ Good l
-    kept true x e = cc
-    kept false x e = e
-
 -- ---- the first line of some that are all good
 module _ (f g : Facts) (t : List ℕ) (ts : List (List ℕ)) where
   pub record Goes : Type 0 where
@@ -71,7 +47,7 @@ module _ (f g : Facts) (t : List ℕ) (ts : List (List ℕ)) where
   goes-by : (r : LineReading) → readLine (lineNumber (f .lines + 1)) t ≡ r → factsBy f r (λ h. factsFrom h ts) ≡ Through g → Goes
   unfolding factsBy
   goes-by (Good m) q p =
-      let e : m ≡ lineSays t = good-says (lineNumber (f .lines + 1)) t m q in
+      let e : m ≡ lineSays t = good-form (lineNumber (f .lines + 1)) t m (omega arith) q .line in
       record { reads = q ∙ ap Good e; rest = rw e at p }
   goes-by (Refused h) q p = let z : _≡_ {A = ℕ} 0 1 = cc in absurd (let y : ⊥ = omega arith in y)
 

@@ -10,7 +10,7 @@ use borrow.Author.Tests.{ltb-true, ltb-false}
 use Rattle.counts.specs.declared.LineNumber.{LineNumber}
 use Rattle.counts.specs.Counts.{lineNumber}
 use Rattle.line.specs.declared.Line.{Line}
-use Rattle.line.specs.declared.Fault.{Fault}
+use Rattle.line.specs.declared.LineRefusal.{LineRefusal}
 use Rattle.line.specs.declared.LineReading.{LineReading}
 use Rattle.line.specs.declared.LineReading.the-variants.{Good, Refused}
 use Rattle.line.specs.declared.NextLine.the-variants.{End, Took, Stopped}
@@ -45,7 +45,7 @@ module _ (f : Facts) (k : ℕ) (on : Facts → Walked) where
   end-by (Good l) e = cc
   end-by (Refused h) e = cc
 
-  stop-by : (r : LineReading) (g : Fault) → nextBy r k ≡ Stopped g → factsBy f r on ≡ Bad (refusal.Line (lineNumber (f .lines + 1)) g)
+  stop-by : (r : LineReading) (g : LineRefusal) → nextBy r k ≡ Stopped g → factsBy f r on ≡ Bad (refusal.Line (lineNumber (f .lines + 1)) g)
   unfolding nextBy factsBy
   stop-by (Good l) g e = cc
   stop-by (Refused h) g e = cc
@@ -69,7 +69,7 @@ module _ (f : Facts) (s : List ℕ) (at : ℕ) where
       ⊎-elim (λ h. rw (drop-of-length-le s h))
       (λ h. rw (lines-at s at h) (end-by f _ _ _ (sym (step-here s at n h) ∙ e))) here?
 
-  pub facts-stop : (g : Fault) → nextLine n at s ≡ Stopped g → factsFrom f (linesOf (drop at s)) ≡ Bad (refusal.Line n g)
+  pub facts-stop : (g : LineRefusal) → nextLine n at s ≡ Stopped g → factsFrom f (linesOf (drop at s)) ≡ Bad (refusal.Line n g)
   unfolding factsFrom
   facts-stop g e =
       ⊎-elim (λ h. cc (step-past s at n h))

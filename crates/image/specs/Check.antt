@@ -34,7 +34,7 @@ firstRefusal (Refused r ∷ more) = Refused r
 -- a line's own answer, 2 to 6
 unfoldable pub lineAnswer : LineNumber → LineReading → FileAnswer
 lineAnswer n (reading.Good l) = Accepted
-lineAnswer n (reading.Refused fault) = Refused (refusal.Line n fault)
+lineAnswer n (reading.Refused r) = Refused (refusal.Line n r)
 
 -- those of all lines, the first of which has the number n
 unfoldable pub lineAnswers : ℕ → List (List ℕ) → List FileAnswer

@@ -56,8 +56,8 @@ pub(crate) fn facts_of(digits: &[u8; 256], table: &[u8; 256], s: &[u8]) -> Walke
                 facts = facts_with(facts, line);
                 at = next;
             }
-            NextLine::Stopped(fault) => {
-                return Walked::Bad(Refusal::Line(n, fault));
+            NextLine::Stopped(refusal) => {
+                return Walked::Bad(Refusal::Line(n, refusal));
             }
         }
     }

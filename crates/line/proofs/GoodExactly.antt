@@ -12,8 +12,7 @@ use Rattle.pec.specs.Pec.{pec}
 use Rattle.counts.specs.declared.LineNumber.{LineNumber}
 use Rattle.counts.specs.Counts.{lineNumber}
 use Rattle.line.specs.declared.Line.{Line}
-use Rattle.line.specs.declared.Fault.{Fault}
-use Rattle.line.specs.declared.Fault.the-variants.{Char, Pairs, Length, Crc, Form}
+use Rattle.line.specs.declared.LineRefusal.{LineRefusal}
 use Rattle.line.specs.declared.LineReading.{LineReading}
 use Rattle.line.specs.declared.LineReading.the-variants.{Good, Refused}
 use Rattle.line.specs.Digits.{digitVal, allDigits, valuesOf}
@@ -85,20 +84,20 @@ pub record Formed (n : ℕ) (t : List ℕ) (l : Line) : Type 0 where
   pub form : LineForm n (valuesOf digitVal t)
   pub line : l ≡ lineOf (valuesOf digitVal t)
 
-refused : {P : Type 0} (f : Fault) (l : Line) → Refused f ≡ Good l → P
-refused f l e = let z : _≡_ {A = ℕ} 0 1 = cc in absurd (let y : ⊥ = omega arith in y)
+refused : {P : Type 0} (r : LineRefusal) (l : Line) → Refused r ≡ Good l → P
+refused r l e = let z : _≡_ {A = ℕ} 0 1 = cc in absurd (let y : ⊥ = omega arith in y)
 
 -- a test that a good line has passed
-must : (test : Bool) (x : LineReading) (f : Fault) (l : Line) → cond test x (Refused f) ≡ Good l → (test ≡ true) × (x ≡ Good l)
-must true x f l e = (refl, e)
-must false x f l e = refused f l e
+must : (test : Bool) (x : LineReading) (r : LineRefusal) (l : Line) → cond test x (Refused r) ≡ Good l → (test ≡ true) × (x ≡ Good l)
+must true x r l e = (refl, e)
+must false x r l e = refused r l e
 
-must-not : (test : Bool) (x : LineReading) (f : Fault) (l : Line) → cond test (Refused f) x ≡ Good l → (test ≡ false) × (x ≡ Good l)
-must-not true x f l e = refused f l e
-must-not false x f l e = (refl, e)
+must-not : (test : Bool) (x : LineReading) (r : LineRefusal) (l : Line) → cond test (Refused r) x ≡ Good l → (test ≡ false) × (x ≡ Good l)
+must-not true x r l e = refused r l e
+must-not false x r l e = (refl, e)
 
 -- a count of digits that a line has
-pairs-of : (d : ℕ) → badPairs d ≡ false → (d % 2 ≡ 0) × (10 ≤ d)
+pub pairs-of : (d : ℕ) → badPairs d ≡ false → (d % 2 ≡ 0) × (10 ≤ d)
 unfolding badPairs
 pairs-of d e =
     split (eqb (d % 2) 0)
@@ -109,11 +108,11 @@ pub good-form : (n : LineNumber) (t : List ℕ) (l : Line) → 1 ≤ n .0 → re
 unfolding readLine readDigits readValues
 good-form n t l h e =
     let v = valuesOf digitVal t in
-    let p1 = must (allDigits digitVal t) (readDigits digitVal pec n t) Char l e in
-    let p2 = must-not (badPairs (length t)) (readValues pec n v) Pairs l (p1 .1) in
-    let p3 = must (lengthRight v) _ Length l (p2 .1) in
-    let p4 = must (crcRight pec v) _ Crc l (p3 .1) in
-    let p5 = must (formRight n v) (Good (lineOf v)) Form l (p4 .1) in
+    let p1 = must (allDigits digitVal t) (readDigits digitVal pec n t) _ l e in
+    let p2 = must-not (badPairs (length t)) (readValues pec n v) _ l (p1 .1) in
+    let p3 = must (lengthRight v) _ _ l (p2 .1) in
+    let p4 = must (crcRight pec v) _ _ l (p3 .1) in
+    let p5 = must (formRight n v) (Good (lineOf v)) _ l (p4 .1) in
     let q = pairs-of (length t) (p2 .0) in
     record {
       spelled = values-spelled t (p1 .0) (q .0);

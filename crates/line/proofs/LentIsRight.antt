@@ -5,7 +5,7 @@ use mathlib.Core.List.{List, [], _∷_}
 use mathlib.Core.Path.{_≡_, refl, sym, ap, _∙_}
 use native.Mathlib.Omega.{arith}
 use lib.ListN.{length, getD, take, drop, drop-of-length-le}
-use lib.Seq.{drop-drop}
+use lib.Seq.{drop-drop, length-take-le}
 use lib.Dec.{eqb, ltb, leb, lit<}
 use borrow.Author.Tests.{eqb-true, ltb-true, ltb-false, lt-leb, lt-ltb, le-ltb}
 use Rattle.pec.specs.Pec.{pec}
@@ -22,7 +22,7 @@ use Rattle.line.specs.declared.Ending.the-variants.{Other, Next}
 use Rattle.line.specs.declared.NextLine.{NextLine}
 use Rattle.line.specs.declared.NextLine.the-variants.{End}
 use Rattle.promise.proofs.Basics.{split}
-use Rattle.line.proofs.LineParts.{run-digits, values-lt, slice-get, slice-past}
+use Rattle.line.proofs.LineParts.{run-le, run-digits, values-lt, slice-get, slice-past}
 use Rattle.cuts.proofs.FirstLine.{lineLen, crlf-lf, lines-at}
 
 -- ---- the table of digits: one test over its entries, and past them every byte is no digit
@@ -79,18 +79,19 @@ ended (b ∷ s) e next p =
     (λ k. let z : Next (e + 2) ≡ Next next = simp (d, h, k) at p in let q : e + 2 ≡ next = cc in simp (d, h, k) (refl, omega (arith, lf-next b s k)))
     (λ k. let z : Other ≡ Next next = simp (d, h, k) at p in let y : _≡_ {A = ℕ} 0 1 = cc in absurd (let x : ⊥ = omega arith in x))))
 
--- where it does not, the line has a byte that is no digit
-unended : (t : List ℕ) (e : ℕ) → endingOf e (drop (run t) t) ≡ Other → allDigits digitVal (take (lineLen t) t) ≡ false
+-- where it does not, the line has a byte that is no digit, and the same run before it
+unended : (t : List ℕ) (e : ℕ) → endingOf e (drop (run t) t) ≡ Other →
+    (allDigits digitVal (take (lineLen t) t) ≡ false) × (run (take (lineLen t) t) ≡ run t)
 unfolding endingOf digitRun lineLen allDigits
 unended [] e p = let y : _≡_ {A = ℕ} 0 1 = cc in absurd (let x : ⊥ = omega arith in x)
 unended (b ∷ s) e p =
     split (isDigit digitVal b)
-    (λ d. simp (not-ten b d, not-cr b (getD s 0 0) d) (simp d (unended s e (simp d at p))))
+    (λ d. let r = unended s e (simp d at p) in simp (not-ten b d, not-cr b (getD s 0 0) d) (simp d (r .0, ap suc (r .1))))
     (λ d. split (eqb b 10)
     (λ h. let z : Next (e + 1) ≡ Other = simp (d, h) at p in let y : _≡_ {A = ℕ} 0 1 = cc in absurd (let x : ⊥ = omega arith in x))
     (λ h. split (crLf b (getD s 0 0))
     (λ k. let z : Next (e + 2) ≡ Other = simp (d, h, k) at p in let y : _≡_ {A = ℕ} 0 1 = cc in absurd (let x : ⊥ = omega arith in x))
-    (λ k. simp (h, k) (simp d))))
+    (λ k. simp (h, k) (simp d (refl, refl)))))
 
 -- ---- reading by lent tables, where the run of digits ends at e
 pub lent-here : (digits table : List ℕ) (n : LineNumber) (at : ℕ) (s : List ℕ) → at < length s → (e : ℕ) →
@@ -125,7 +126,9 @@ module _ {digits table : List ℕ} (digitRule : IsDigits digits) (rule : IsTable
     here : (t : List ℕ) (x : Ending) → endingOf (at + run t) (drop (run t) t) ≡ x →
         byEnding digits table n (take (run t) t) x ≡ nextBy (readLine n (take (lineLen t) t)) (at + lineSkip t)
     unfolding byEnding readLine nextBy
-    here t Other p = rw (unended t (at + run t) p)
+    here t Other p =
+        let q = unended t (at + run t) p in
+        rw (q .0, q .1, length-take-le (run t) t (run-le digitVal t))
     here t (Next next) p =
         let q = ended t (at + run t) next p in
         let k : next ≡ at + lineSkip t = omega (arith, q .1) in

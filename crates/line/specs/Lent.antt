@@ -9,6 +9,7 @@ use Rattle.pec.specs.Lent.{runWith}
 use Rattle.counts.specs.declared.LineNumber.{LineNumber}
 use Rattle.cuts.specs.Lines.{crLf}
 use Rattle.line.specs.Digits.{digitBy, digitRun}
+use Rattle.line.specs.Places.{faultAt}
 use Rattle.line.specs.Reading.{readDigits, nextBy}
 use Rattle.line.specs.declared.Fault.the-variants.{Char}
 use Rattle.line.specs.declared.LineReading.{LineReading}
@@ -26,8 +27,9 @@ module _ (digits table : List ℕ) (n : LineNumber) where
   abbrev pub readBy : List ℕ → LineReading
   readBy t = readDigits (digitBy digits) (runWith table 0) n t
 
+  -- behind these digits the line ends, or the first byte that is no digit stands
   unfoldable pub byEnding : List ℕ → Ending → NextLine
-  byEnding t Other = Stopped Char
+  byEnding t Other = Stopped (faultAt Char (length t + 1))
   byEnding t (Next next) = nextBy (readBy t) next
 
   abbrev pub runAt : ℕ → List ℕ → ℕ

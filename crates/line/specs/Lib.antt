@@ -1,4 +1,5 @@
 pub mod Digits
+pub mod Places
 pub mod Reading
 pub mod Lent
 pub mod LineForm

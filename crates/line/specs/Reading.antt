@@ -9,7 +9,8 @@ use lib.Dec.{eqb, ltb, leb}
 use Rattle.pec.specs.Pec.{pec}
 use Rattle.counts.specs.declared.LineNumber.{LineNumber}
 use Rattle.cuts.specs.Lines.{linesOf, lineSkip}
-use Rattle.line.specs.Digits.{digitVal, allDigits, valuesOf}
+use Rattle.line.specs.Digits.{digitVal, allDigits, digitRun, valuesOf}
+use Rattle.line.specs.Places.{faultAt, lastPair, formPlaceOf}
 use Rattle.line.specs.declared.Line.{Line}
 use Rattle.line.specs.declared.Fault.{Fault}
 use Rattle.line.specs.declared.Fault.the-variants.{Char, Pairs, Length, Crc, Form}
@@ -94,21 +95,23 @@ formRight n v = formOk (n .0) (getD v 0 0) (getD v 2 0) (getD v 3 0) (length v -
 unfoldable pub readValues : (List ℕ → ℕ) → LineNumber → List ℕ → LineReading
 readValues code n v =
     cond (lengthRight v)
-    (cond (crcRight code v) (cond (formRight n v) (Good (lineOf v)) (Refused Form)) (Refused Crc))
-    (Refused Length)
+    (cond (crcRight code v)
+    (cond (formRight n v) (Good (lineOf v)) (Refused (faultAt Form (formPlaceOf n v))))
+    (Refused (faultAt Crc (lastPair v))))
+    (Refused (faultAt Length 3))
 
--- the last four, on a text of digits
+-- the last four, on a text of digits; the place of PAIRS is the digit count plus one
 unfoldable pub readDigits : (ℕ → ℕ) → (List ℕ → ℕ) → LineNumber → List ℕ → LineReading
-readDigits digit code n t = cond (badPairs (length t)) (Refused Pairs) (readValues code n (valuesOf digit t))
+readDigits digit code n t = cond (badPairs (length t)) (Refused (faultAt Pairs (length t + 1))) (readValues code n (valuesOf digit t))
 
--- a line's reading, by the line's number and its text
+-- a line's reading, by the line's number and its text; the place of CHAR is the first bad byte
 unfoldable pub readLine : LineNumber → List ℕ → LineReading
-readLine n t = cond (allDigits digitVal t) (readDigits digitVal pec n t) (Refused Char)
+readLine n t = cond (allDigits digitVal t) (readDigits digitVal pec n t) (Refused (faultAt Char (digitRun digitVal t + 1)))
 
 -- with the place behind the line
 unfoldable pub nextBy : LineReading → ℕ → NextLine
 nextBy (Good l) next = Took l next
-nextBy (Refused f) next = Stopped f
+nextBy (Refused r) next = Stopped r
 
 -- the first of some lines, if there is one
 unfoldable pub nextOf : LineNumber → ℕ → List (List ℕ) → NextLine

@@ -1,13 +1,18 @@
 // One line of the text (document 01, "Lines of the file"): its digits, its values, and its reading as an enum. Two tables are
 // made once for a file and lent down: what each byte counts as a digit, and the remainders of the packet error code.
 mod digits_table;
+mod places;
 mod scan;
 mod tests;
 mod usual;
 mod values;
 
 use counts::LineNumber;
+use counts::Place;
 use digits_table::VALUES;
+use places::fault_at;
+use places::form_place_of;
+use places::last_pair;
 use scan::end_at;
 use scan::run_end;
 use tests::bad_pairs;
@@ -45,17 +50,23 @@ pub enum Fault {
     Form,
 }
 
-// A line's reading: the good line, or the first fault of 2 to 6.
+// A line's refusal: the first fault of 2 to 6, and the place in the line that it is about (request R-1). Handed on whole.
+pub struct LineRefusal {
+    pub fault: Fault,
+    pub place: Place,
+}
+
+// A line's reading: the good line, or its refusal.
 pub enum LineReading {
     Good(Line),
-    Refused(Fault),
+    Refused(LineRefusal),
 }
 
 // Reading at a place: nothing is left, a good line with the place behind it, or a refusal.
 pub enum NextLine {
     End,
     Took(Line, usize),
-    Stopped(Fault),
+    Stopped(LineRefusal),
 }
 
 // What follows a run of digits: the end of the line, with the place behind it, or something else.
@@ -101,13 +112,13 @@ fn read_values(digits: &[u8; 256], table: &[u8; 256], t: &[u8], n: LineNumber) -
             if form_right(digits, t, n) {
                 LineReading::Good(line_of(digits, t))
             } else {
-                LineReading::Refused(Fault::Form)
+                LineReading::Refused(fault_at(Fault::Form, form_place_of(digits, t, n)))
             }
         } else {
-            LineReading::Refused(Fault::Crc)
+            LineReading::Refused(fault_at(Fault::Crc, last_pair(t)))
         }
     } else {
-        LineReading::Refused(Fault::Length)
+        LineReading::Refused(fault_at(Fault::Length, 3))
     }
 }
 
@@ -116,7 +127,7 @@ fn read_digits(digits: &[u8; 256], table: &[u8; 256], t: &[u8], n: LineNumber) -
     ensures { λ r. ⌜ r ≡ readDigits (digitBy (now (digits .entry))) (runWith (now (table .entry)) 0) n (now (t .entry)) ⌝ }
 {
     if bad_pairs(t.len()) {
-        LineReading::Refused(Fault::Pairs)
+        LineReading::Refused(fault_at(Fault::Pairs, t.len() + 1))
     } else {
         read_values(digits, table, t, n)
     }
@@ -127,7 +138,7 @@ fn next_by(reading: LineReading, next: usize) -> NextLine
 {
     match reading {
         LineReading::Good(line) => NextLine::Took(line, next),
-        LineReading::Refused(fault) => NextLine::Stopped(fault),
+        LineReading::Refused(refusal) => NextLine::Stopped(refusal),
     }
 }
 
@@ -139,7 +150,7 @@ fn searched(digits: &[u8; 256], table: &[u8; 256], s: &[u8], at: usize, n: LineN
     let end = run_end(digits, s, at);
     let ending = end_at(s, end);
     match ending {
-        Ending::Other => NextLine::Stopped(Fault::Char),
+        Ending::Other => NextLine::Stopped(fault_at(Fault::Char, end - at + 1)),
         Ending::Next(next) => next_by(read_digits(digits, table, &s[at..end], n), next),
     }
 }

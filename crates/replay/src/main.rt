@@ -18,11 +18,12 @@ fn say_request(q: Request) {
 }
 
 fn say_end(s: Session, report: session::Report) {
-    let mut line = [0u8; 64];
-    let n = dryrun::put_report(&mut line, report);
-    io::write_all(STDOUT_FILENO, &line[..n]);
-    let m = dryrun::put_count(&mut line, s.sent, s.burned);
-    io::write_all(STDOUT_FILENO, &line[..m]);
+    let mut verdict = [0u8; 112];
+    let n = dryrun::put_report(&mut verdict, report);
+    io::write_all(STDOUT_FILENO, &verdict[..n]);
+    let mut count = [0u8; 64];
+    let m = dryrun::put_count(&mut count, s.sent, s.burned);
+    io::write_all(STDOUT_FILENO, &count[..m]);
 }
 
 // One call for each reply from a place on; no input has more replies than bytes.

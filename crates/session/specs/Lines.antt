@@ -36,7 +36,7 @@ tookOf s l next n =
 unfoldable pub dueOf : Session → LineNumber → line.NextLine → Handed
 dueOf s n End = badOf s
 dueOf s n (Took l next) = tookOf s l next n
-dueOf s n (Stopped fault) = badOf s
+dueOf s n (Stopped r) = badOf s
 
 unfoldable pub putLineOf : List ℕ → Session → LineNumber → Handed
 putLineOf text s n = dueOf s n (nextLine n (s .position .place) text)

@@ -6,7 +6,7 @@ use Rattle.session.specs.declared.Answer.the-variants.{Next, Over, BadSt
 use Rattle.session.specs.declared.Report.{Report}
 use Rattle.session.specs.declared.Report.the-variants.{Waiting, Is}
 
--- while a reply is awaited there is no number, since DONE is 0; 15 has no line and no N
+-- while a reply is awaited there is no number, since DONE is 0; 15 has no line, no place and no N
 unfoldable pub reportOf : Answer → Report
 reportOf Next = Waiting
 reportOf (Over v) = Is (verdictTold v)

@@ -6,7 +6,7 @@ fn main() {
     // One byte more than a file may have, so that a longer one is seen to be longer.
     let mut file = [0u8; 65537];
     let n = io::read_full(STDIN_FILENO, &mut file);
-    let mut out = [0u8; 136];
+    let mut out = [0u8; 160];
     let written = shown::show(&file[..n], &mut out);
     io::write_all(STDOUT_FILENO, &out[..written]);
 }

@@ -28,15 +28,15 @@ unfolding kindName bytesOf
 kind-length Legacy = omega arith
 kind-length Production = omega arith
 
-pub head-length : (s : Summary) → length (headOf s) ≤ 48
+pub head-length : (s : Summary) → length (headOf s) ≤ 72
 unfolding headOf bytesOf
 head-length s =
     simp (length-append, digits-length) (omega (arith, kind-length (s .kind), decimal-length (s .lines), decimal-length (s .configs)))
 
-pub refused-length : (r : Refusal) → length (refusedText r) ≤ 136
+pub refused-length : (r : Refusal) → length (refusedText r) ≤ 160
 unfolding refusedText bytesOf
-refused-length r = simp length-append (omega (arith, decimal-length (refusalTold r .number), decimal-length (refusalTold r .line .0)))
+refused-length r = simp length-append (omega (arith, decimal-length (refusalTold r .number), decimal-length (refusalTold r .line .0), decimal-length (refusalTold r .place .0)))
 
-pub accepted-length : (s : Summary) → s .configs ≤ 8 → length (acceptedText s) ≤ 136
+pub accepted-length : (s : Summary) → s .configs ≤ 8 → length (acceptedText s) ≤ 160
 unfolding acceptedText
 accepted-length s few = simp length-append (omega (arith, head-length s, rows-length s (s .configs)))

@@ -35,10 +35,11 @@ headOf s =
 unfoldable pub acceptedText : Summary → List ℕ
 acceptedText s = headOf s ++ rowsTo s (s .configs)
 
--- refused NUMBER line LINE
+-- refused NUMBER line LINE at PLACE
 unfoldable pub refusedText : Refusal → List ℕ
 refusedText r =
-    bytesOf "refused " ++ decimal (refusalTold r .number) ++ bytesOf " line " ++ decimal (refusalTold r .line .0) ++ lineEnd
+    bytesOf "refused " ++ decimal (refusalTold r .number) ++ bytesOf " line " ++ decimal (refusalTold r .line .0) ++ bytesOf " at "
+    ++ decimal (refusalTold r .place .0) ++ lineEnd
 
 unfoldable pub answerText : FileAnswer → Summary → List ℕ
 answerText Accepted s = acceptedText s

@@ -52,7 +52,7 @@ fn put_rows(out: &mut [u8], at: usize, s: Summary) -> usize
 
 // The first line of an accepted file.
 fn put_head(out: &mut [u8], at: usize, s: Summary) -> usize
-    requires { ⌜ at + 48 ≤ length (now out) ⌝ }
+    requires { ⌜ at + 72 ≤ length (now out) ⌝ }
     ensures { λ r. ⌜ Puts (now (out .entry)) at (headOf s) (now (out .exit)) r ⌝ }
 {
     let kind = s.kind;
@@ -61,14 +61,14 @@ fn put_head(out: &mut [u8], at: usize, s: Summary) -> usize
     let c = put_bytes(out, b, b" ");
     let d = put_hex8(out, c, s.identity);
     let e = put_bytes(out, d, b" ");
-    let f = put_decimal(out, e, s.lines);
+    let f = put_decimal(out, e, s.lines as u64);
     let g = put_bytes(out, f, b" ");
-    let h = put_decimal(out, g, s.configs as u32);
+    let h = put_decimal(out, g, s.configs as u64);
     put_bytes(out, h, b"\n")
 }
 
 fn put_accepted(out: &mut [u8], s: Summary) -> usize
-    requires { ⌜ (s .configs ≤ 8) × (136 ≤ length (now out)) ⌝ }
+    requires { ⌜ (s .configs ≤ 8) × (160 ≤ length (now out)) ⌝ }
     ensures { λ r. ⌜ Puts (now (out .entry)) 0 (acceptedText s) (now (out .exit)) r ⌝ }
 {
     let next = put_head(out, 0, s);
@@ -76,19 +76,21 @@ fn put_accepted(out: &mut [u8], s: Summary) -> usize
 }
 
 fn put_refused(out: &mut [u8], r: Refusal) -> usize
-    requires { ⌜ 136 ≤ length (now out) ⌝ }
+    requires { ⌜ 160 ≤ length (now out) ⌝ }
     ensures { λ q. ⌜ Puts (now (out .entry)) 0 (refusedText r) (now (out .exit)) q ⌝ }
 {
     let told = r.told();
     let a = put_bytes(out, 0, b"refused ");
-    let b = put_decimal(out, a, told.number as u32);
+    let b = put_decimal(out, a, told.number as u64);
     let c = put_bytes(out, b, b" line ");
-    let d = put_decimal(out, c, told.line.0);
-    put_bytes(out, d, b"\n")
+    let d = put_decimal(out, c, told.line.0 as u64);
+    let e = put_bytes(out, d, b" at ");
+    let f = put_decimal(out, e, told.place.0 as u64);
+    put_bytes(out, f, b"\n")
 }
 
 // Writes what the program prints of a file at the start of the buffer, and answers how many bytes that is.
-pub fn show(text: &[u8], out: &mut [u8; 136]) -> usize
+pub fn show(text: &[u8], out: &mut [u8; 160]) -> usize
     ensures { λ r. ⌜ Puts (now (out .entry)) 0 (shown (now (text .entry))) (now (out .exit)) r ⌝ }
 {
     let checked = image::check(text);

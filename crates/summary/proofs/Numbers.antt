@@ -38,5 +38,5 @@ whole-number Spot = early (lit≤ tt) (lit≤ tt)
 whole-number Same = record { some = lit≤ tt; few = lit≤ tt; not12 = λ e. omega arith }
 
 pub refusal-number : (r : Refusal) → RefusalNumber (refusalTold r .number)
-refusal-number (refusal.Line n f) = fault-number f
+refusal-number (refusal.Line n r) = fault-number (r .fault)
 refusal-number (refusal.Whole w) = whole-number w

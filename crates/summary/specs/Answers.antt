@@ -3,9 +3,10 @@
 use Prim.Native.Nat.{ℕ}
 use lib.ListN.{replicate}
 use Rattle.counts.specs.declared.LineNumber.{LineNumber}
+use Rattle.counts.specs.declared.Place.{Place}
 use Rattle.counts.specs.declared.ConfigNumber.{ConfigNumber}
 use Rattle.counts.specs.declared.Kind.the-variants.{Legacy}
-use Rattle.counts.specs.Counts.{lineNumber, configNumber, configId}
+use Rattle.counts.specs.Counts.{lineNumber, linePlace, configNumber, configId}
 use Rattle.line.specs.Reading.{faultNumber}
 use Rattle.summary.specs.declared.Whole.{Whole}
 use Rattle.summary.specs.declared.Whole.the-variants.{Size, Count, Revision, Device, Burn, Spot, Same}
@@ -16,12 +17,12 @@ use Rattle.summary.specs.declared.FileAnswer.the-variants.{Accepted, Ref
 use Rattle.summary.specs.declared.Told.{Told}
 use Rattle.summary.specs.declared.Summary.{Summary}
 
-abbrev pub told : ℕ → LineNumber → ConfigNumber → Told
-told number line config = record { number = number; line = line; config = config }
+abbrev pub told : ℕ → LineNumber → Place → ConfigNumber → Told
+told number line place config = record { number = number; line = line; place = place; config = config }
 
--- no line and no N: both are 0
+-- no line, no place and no N: all are 0
 abbrev pub plain : ℕ → Told
-plain number = told number (lineNumber 0) (configNumber 0)
+plain number = told number (lineNumber 0) (linePlace 0) (configNumber 0)
 
 -- 12 is unused (request R-9)
 abbrev pub wholeNumber : Whole → ℕ
@@ -33,9 +34,9 @@ wholeNumber Burn = 10
 wholeNumber Spot = 11
 wholeNumber Same = 13
 
--- the line is 0 for 1 and from 7 on
+-- line and place are 0 for 1 and from 7 on
 abbrev pub refusalTold : Refusal → Told
-refusalTold (refusal.Line n fault) = told (faultNumber fault) n (configNumber 0)
+refusalTold (refusal.Line n r) = told (faultNumber (r .fault)) n (r .place) (configNumber 0)
 refusalTold (refusal.Whole w) = plain (wholeNumber w)
 
 -- 0 if accepted

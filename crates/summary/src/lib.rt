@@ -5,8 +5,9 @@ use counts::ConfigId;
 use counts::ConfigNumber;
 use counts::Kind;
 use counts::LineNumber;
-use line::Fault;
+use counts::Place;
 use line::Line;
+use line::LineRefusal;
 ghost use mathlib.Core.Path.{_≡_};
 ghost use Rattle.summary.specs.Answers.{plain, wholeNumber, refusalTold, answerTold, noSummary};
 ghost use Rattle.summary.specs.Burn.{isBurn};
@@ -22,9 +23,9 @@ pub enum Whole {
     Same,
 }
 
-// The first faulty line with its fault, numbers 2 to 6, or the whole file's. Handed on whole.
+// The first faulty line with its refusal, numbers 2 to 6, or the whole file's. Handed on whole.
 pub enum Refusal {
-    Line(LineNumber, Fault),
+    Line(LineNumber, LineRefusal),
     Whole(Whole),
 }
 
@@ -33,10 +34,11 @@ pub enum FileAnswer {
     Refused(Refusal),
 }
 
-// What is told of an answer: document 01's number, the line, and N.
+// What is told of an answer: document 01's number, the line, the place in it, and N.
 pub struct Told {
     pub number: u8,
     pub line: LineNumber,
+    pub place: Place,
     pub config: ConfigNumber,
 }
 
@@ -58,13 +60,14 @@ pub struct Checked {
 }
 
 impl Told {
-    // A number with no line and no N: both are 0.
+    // A number with no line, no place and no N: all are 0.
     pub fn plain(number: u8) -> Told
         ensures { λ r. ⌜ r ≡ plain number ⌝ }
     {
         Told {
             number: number,
             line: LineNumber(0),
+            place: Place(0),
             config: ConfigNumber(0),
         }
     }
@@ -88,14 +91,17 @@ impl Whole {
 }
 
 impl Refusal {
-    // The document's number, with the line where one is faulty.
+    // The document's number, with the line and the place in it where one is faulty.
     pub fn told(self) -> Told
         ensures { λ r. ⌜ r ≡ refusalTold self ⌝ }
     {
         match self {
-            Refusal::Line(n, fault) => {
+            Refusal::Line(n, refusal) => {
+                let fault = refusal.fault;
+                let place = refusal.place;
                 let mut told = Told::plain(fault.number());
                 told.line = n;
+                told.place = place;
                 told
             }
             Refusal::Whole(whole) => Told::plain(whole.number()),

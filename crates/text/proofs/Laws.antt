@@ -78,13 +78,13 @@ module _ (s : List ℕ) (i : ℕ) where
       (λ t. let k : i < length s = ltb-true i (length s) t in rw (drop-at1 s i k, drop-of-length-le s {i = i + 1} (omega arith)))
       (λ t. rw (drop-of-length-le s {i = i} (ltb-false i (length s) t)))
 
--- the ten digits, cut as a slice behind their zeros
-pub decimal-cut : (n : ℕ) {s : List ℕ} → s ≡ digits 10 10 n → take (10 - zerosBefore s) (drop (zerosBefore s) s) ≡ decimal n
+-- the twenty digits, cut as a slice behind their zeros
+pub decimal-cut : (n : ℕ) {s : List ℕ} → s ≡ digits 10 20 n → take (20 - zerosBefore s) (drop (zerosBefore s) s) ≡ decimal n
 unfolding decimal
 decimal-cut n {s} e =
-    let ten : length s ≡ 10 = ap length e ∙ digits-length 10 10 n in
+    let twenty : length s ≡ 20 = ap length e ∙ digits-length 10 20 n in
     let z = zerosBefore s in
-    let left : 10 - z ≡ length (drop z s) = omega (arith, length-drop z s) in
+    let left : 20 - z ≡ length (drop z s) = omega (arith, length-drop z s) in
     rw (left, take-length) (ap (λ (l : List ℕ). drop (zerosBefore l) l) e)
 
 -- ---- text at a place
@@ -179,9 +179,9 @@ puts-length {before} {bs} {after} {at} p =
 
 -- ---- how long numbers are
 
-pub decimal-length : (n : ℕ) → length (decimal n) ≤ 10
+pub decimal-length : (n : ℕ) → length (decimal n) ≤ 20
 unfolding decimal
-decimal-length n = omega (arith, length-drop (zerosBefore (digits 10 10 n)) (digits 10 10 n), digits-length 10 10 n)
+decimal-length n = omega (arith, length-drop (zerosBefore (digits 10 20 n)) (digits 10 20 n), digits-length 10 20 n)
 
 -- the place stays within the buffer
 pub puts-within : {before bs after : List ℕ} {at next : ℕ} → Puts before at bs after next → at ≤ length before → next ≤ length before

@@ -38,9 +38,9 @@ zerosBefore [] = 0
 zerosBefore (d ∷ []) = 0
 zerosBefore (d ∷ e ∷ ds) = cond (eqb d 48) (suc (zerosBefore (e ∷ ds))) 0
 
--- without leading zeros; ten digits hold every number of 32 bits
+-- without leading zeros; twenty digits hold every number of 64 bits
 unfoldable pub decimal : ℕ → List ℕ
-decimal n = drop (zerosBefore (digits 10 10 n)) (digits 10 10 n)
+decimal n = drop (zerosBefore (digits 10 20 n)) (digits 10 20 n)
 
 -- ---- a buffer with a text at a place, where it fits
 unfoldable pub fits : List ℕ → ℕ → List ℕ → Bool

@@ -5,7 +5,7 @@ ghost use Prim.Native.Nat.{_+_, _≤_, _<_};
 ghost use lib.ListN.{length};
 ghost use Rattle.text.specs.Text.{glyph, digits, hex, decimal, zerosBefore, Puts};
 
-fn digit_glyph(d: u32) -> u8
+fn digit_glyph(d: u64) -> u8
     requires { ⌜ d < 16 ⌝ }
     ensures { λ r. ⌜ r ≡ glyph d ⌝ }
 {
@@ -13,7 +13,7 @@ fn digit_glyph(d: u32) -> u8
 }
 
 // Fills the slice with the last digits of n, the highest first.
-fn spell(out: &mut [u8], base: u32, n: u32)
+fn spell(out: &mut [u8], base: u64, n: u64)
     requires { ⌜ (2 ≤ base) × (base ≤ 16) ⌝ }
     ensures { λ r. ⌜ now (out .exit) ≡ digits base (length (now (out .entry))) n ⌝ }
 {
@@ -55,7 +55,7 @@ fn put_hex(out: &mut [u8], at: usize, n: u32, width: usize) -> usize
     ensures { λ r. ⌜ Puts (now (out .entry)) at (hex width n) (now (out .exit)) r ⌝ }
 {
     let mut spelled = [0u8; 8];
-    spell(&mut spelled, 16, n);
+    spell(&mut spelled, 16, n as u64);
     let start = 8 - width;
     put_bytes(out, at, &spelled[start..])
 }
@@ -97,10 +97,10 @@ fn zeros(spelled: &[u8]) -> usize
 }
 
 // A decimal without leading zeros.
-pub fn put_decimal(out: &mut [u8], at: usize, n: u32) -> usize
+pub fn put_decimal(out: &mut [u8], at: usize, n: u64) -> usize
     ensures { λ r. ⌜ Puts (now (out .entry)) at (decimal n) (now (out .exit)) r ⌝ }
 {
-    let mut spelled = [0u8; 10];
+    let mut spelled = [0u8; 20];
     spell(&mut spelled, 10, n);
     let start = zeros(&spelled);
     put_bytes(out, at, &spelled[start..])

@@ -2,7 +2,6 @@
 use mathlib.Core.Path.{refl, sym}
 use borrow.Author.Tests.{ne-eqb}
 use Rattle.pec.specs.Pec.{topBit, shift, shifts, remainder, step, pecFrom}
-use Rattle.line.specs.declared.Fault.the-variants.{Pairs, Length, Crc}
 use Rattle.line.specs.Digits.{digitVal, allDigits, pairVal, valuesOf}
 use Rattle.line.specs.Reading.{lineOf, badPairs, someTo32, headOk, bodyOk, formOk, lengthRight, crcRight, formRight, readValues, readDigits, readLine}
 use Rattle.image.specs.Says.{word, crcOf}
@@ -26,13 +25,13 @@ examples-hold = (
           (
             refl,
             (
-              (Crc, refl, refl),
+              (_, refl, refl, refl),
               (
-                (Length, refl, refl),
+                (_, refl, refl, refl),
                 (
-                  (Pairs, refl, refl),
+                  (_, refl, refl, refl),
                   (
-                    (Pairs, refl, refl),
+                    (_, refl, refl, refl),
                     (
                       (refl, λ x h. rw (ne-eqb 0x6A x (λ e. h (sym e)))),
                       ((refl, λ x h. rw (ne-eqb 0x3C x (λ e. h (sym e)))), tt),

@@ -1,4 +1,4 @@
-// What a call of the session handed back, on one line: number, N and line, or that a reply is awaited; the request; count and burn.
+// What a call of the session handed back, on one line: number, N, line and place, or that a reply is awaited; the request; count and burn.
 use bus::Request;
 use libc::STDOUT_FILENO;
 use session::Handed;
@@ -8,9 +8,9 @@ pub(crate) fn say(words: &[u8]) {
     io::write_all(STDOUT_FILENO, words);
 }
 
-fn say_count(words: &[u8], number: u32) {
+fn say_count(words: &[u8], number: u64) {
     say(words);
-    io::print_decimal(STDOUT_FILENO, number as u64);
+    io::print_decimal(STDOUT_FILENO, number);
 }
 
 fn say_report(report: Report) {
@@ -18,8 +18,9 @@ fn say_report(report: Report) {
         Report::Waiting => say(b"waiting"),
         Report::Is(told) => {
             io::print_decimal(STDOUT_FILENO, told.number as u64);
-            say_count(b" config ", told.config.0 as u32);
-            say_count(b" line ", told.line.0);
+            say_count(b" config ", told.config.0 as u64);
+            say_count(b" line ", told.line.0 as u64);
+            say_count(b" at ", told.place.0 as u64);
         }
     }
 }
@@ -37,7 +38,7 @@ fn say_request(q: Request) {
     let bytes = q.bytes;
     say(b" request ");
     say_bytes(bytes);
-    say_count(b" used ", q.used as u32);
+    say_count(b" used ", q.used as u64);
     if q.reads {
         say(b" reads");
     } else {
@@ -52,7 +53,7 @@ pub(crate) fn say_handed(words: &[u8], handed: Handed) {
     say(b": ");
     say_report(answer.report());
     say_request(handed.request);
-    say_count(b", count ", s.sent);
+    say_count(b", count ", s.sent as u64);
     if s.burned {
         say(b" burn 1\n");
     } else {

@@ -41,7 +41,7 @@ burnAmissIn f = cond (f .burnt) (f .early) true
 -- the facts of all lines, or the first faulty one's refusal
 unfoldable pub factsBy : Facts → LineReading → (Facts → Walked) → Walked
 factsBy f (reading.Good l) on = on (factsWith f l)
-factsBy f (reading.Refused fault) on = Bad (refusal.Line (lineNumber (f .lines + 1)) fault)
+factsBy f (reading.Refused r) on = Bad (refusal.Line (lineNumber (f .lines + 1)) r)
 
 unfoldable pub factsFrom : Facts → List (List ℕ) → Walked
 factsFrom f [] = Through f
@@ -56,7 +56,7 @@ noLine = record { command = 0; count = 0; d0 = 0; d1 = 0; d2 = 0; d3 = 0; crc = 
 unfoldable pub lineIn : NextLine → Line
 lineIn End = noLine
 lineIn (Took l next) = l
-lineIn (Stopped fault) = noLine
+lineIn (Stopped r) = noLine
 
 -- the line with a number, read at its place
 unfoldable pub lineAt : LineNumber → List ℕ → Line

@@ -7,16 +7,16 @@ use borrow.Author.Needs.{needs}
 use Rattle.replay.proofs.say_end.Statement.{statement}
 use Rattle.replay.proofs.say_end.Tie as tie
 
-array-share-prefix-line : tie.Need-array-share-prefix-line
-array-share-prefix-line c = omega (arith, puts-within (c .put-report .ensures) (omega arith), puts-length (c .put-report .ensures))
+array-share-prefix-verdict : tie.Need-array-share-prefix-verdict
+array-share-prefix-verdict c = omega (arith, puts-within (c .put-report .ensures) (omega arith), puts-length (c .put-report .ensures))
 
 slice-aggregate-write-all : tie.Need-slice-aggregate-write-all
 slice-aggregate-write-all c =
     let put = c .before .put-report in
     sym (length-take-le (put .result) (put .last .0) (omega (arith, puts-within (put .ensures) (omega arith), puts-length (put .ensures))))
 
-array-share-prefix-line-2 : tie.Need-array-share-prefix-line-2
-array-share-prefix-line-2 c = omega (arith, puts-within (c .put-count .ensures) (omega arith), puts-length (c .put-count .ensures))
+array-share-prefix-count : tie.Need-array-share-prefix-count
+array-share-prefix-count c = omega (arith, puts-within (c .put-count .ensures) (omega arith), puts-length (c .put-count .ensures))
 
 slice-aggregate-write-all-2 : tie.Need-slice-aggregate-write-all-2
 slice-aggregate-write-all-2 c =
@@ -28,11 +28,11 @@ say-end-spec =
     tie.close
     (tie.spec
     (λ c κs. search needs)
-    array-share-prefix-line
+    array-share-prefix-verdict
     slice-aggregate-write-all
     (λ c κs. search needs)
     (λ c κs. search needs)
-    array-share-prefix-line-2
+    array-share-prefix-count
     slice-aggregate-write-all-2
     (λ c κs. search needs)
     (λ c. search needs))

@@ -15,7 +15,7 @@ same-length c =
     let configs = end .before .before .before .before .before in
     let space4 = configs .before .before .before .before .before in
     let lines = space4 .before .before .before .before .before in
-    let space3 = lines .before .before .before .before in
+    let space3 = lines .before .before .before .before .before in
     let identity = space3 .before .before .before .before .before in
     let space2 = identity .before .before .before .before in
     let kind = space2 .before .before .before .before .before in
@@ -31,7 +31,7 @@ returns c =
     let configs = end .before .before .before .before .before in
     let space4 = configs .before .before .before .before .before in
     let lines = space4 .before .before .before .before .before in
-    let space3 = lines .before .before .before .before in
+    let space3 = lines .before .before .before .before .before in
     let identity = space3 .before .before .before .before .before in
     let space2 = identity .before .before .before .before in
     let kind = space2 .before .before .before .before .before in
@@ -60,6 +60,7 @@ put-head-spec =
     (λ c κs. search needs)
     (λ c. search needs)
     (λ c κs. search needs)
+    (λ c. search needs)
     (λ c κs. search needs)
     (λ c. search needs)
     (λ c κs. search needs)

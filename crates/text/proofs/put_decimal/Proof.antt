@@ -1,4 +1,4 @@
--- The ten digits are spelled apart, and put without the zeros before them. Assumes nothing.
+-- The twenty digits are spelled apart, and put without the zeros before them. Assumes nothing.
 use Rattle.text.proofs.Laws.{decimal-cut}
 use borrow.Author.Needs.{needs}
 use Rattle.text.proofs.put_decimal.Statement.{statement}
