@@ -10,6 +10,7 @@ pub mod MeetsPass
 pub mod AcceptedExactly
 pub mod Unused12
 pub mod Printed
+pub mod ToldWhere
 pub mod SummarySays
 pub mod WalkSteps
 pub mod SpotPlaces

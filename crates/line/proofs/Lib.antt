@@ -5,4 +5,6 @@ pub mod Spelling
 pub mod Rows
 pub mod Order
 pub mod GoodExactly
+pub mod FirstField
+pub mod PlaceExactly
 pub mod OneAnswer

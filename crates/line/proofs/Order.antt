@@ -35,7 +35,7 @@ pub record Layout (v : List ℕ) : Type 0 where
   pub crc : ℕ
   pub bytes : v ≡ layout tag size address command content crc
 
-last-off : (w : List ℕ) → 1 ≤ length w → w ≡ take (length w - 1) w ++ (lastOf w ∷ [])
+pub last-off : (w : List ℕ) → 1 ≤ length w → w ≡ take (length w - 1) w ++ (lastOf w ∷ [])
 last-off w h =
     let e : length w ≡ suc (length w - 1) = omega arith in
     sym (take-length w) ∙ ap (λ (k : ℕ). take k w) e ∙ take-suc w (length w - 1) 0 (omega arith)

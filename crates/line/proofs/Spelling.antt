@@ -20,7 +20,7 @@ within lo hi b g h = rw (le-leb lo b g) (le-leb b hi h)
 above : (lo hi b : ℕ) → hi < b → between lo hi b ≡ false
 above lo hi b h = split (leb lo b) (λ e. rw e (lt-leb b hi h)) (λ e. rw e)
 
-digit-val : {b d : ℕ} → Digit b d → digitVal b ≡ d
+pub digit-val : {b d : ℕ} → Digit b d → digitVal b ≡ d
 unfolding digitVal
 digit-val (numeral d h) = rw (within 48 57 (48 + d) (omega arith) (omega arith)) (omega arith)
 digit-val (capital d h) =
@@ -28,7 +28,7 @@ digit-val (capital d h) =
 digit-val (small d h) =
     rw (above 48 57 (97 + d) (omega arith), above 65 70 (97 + d) (omega arith), within 97 102 (97 + d) (omega arith) (omega arith)) (omega arith)
 
-digit-lt : {b d : ℕ} → Digit b d → d < 16
+pub digit-lt : {b d : ℕ} → Digit b d → d < 16
 digit-lt (numeral d h) = omega arith
 digit-lt (capital d h) = omega arith
 digit-lt (small d h) = omega arith
