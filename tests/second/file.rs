@@ -59,11 +59,11 @@ pub fn check_file(text: &[u8]) -> Result<Image, Refusal> {
     check_lines(read_lines(text)?).map_err(refuse_whole)
 }
 
-/// All lines, or the first faulty one with its number among 2 to 6.
+/// All lines, or the refusal of the first faulty one.
 fn read_lines(text: &[u8]) -> Result<Vec<Line>, Refusal> {
     (1..)
         .zip(lines_of(text))
-        .map(|(line, text)| read_line(text, line).map_err(|number| Refusal { number, line }))
+        .map(|(line, text)| read_line(text, line))
         .collect()
 }
 

@@ -14,6 +14,7 @@ mod refusal;
 mod replay;
 mod session;
 mod show;
+mod table;
 mod verdict;
 
 pub use file::number;

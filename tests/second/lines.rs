@@ -1,11 +1,14 @@
-//! "Lines of the file": cutting a text into lines, and the numbers 2 to 6 of one line.
+//! "Lines of the file": cutting a text into lines, and the numbers 2 to 6 of one line, each with its
+//! place (request R-1).
 
 use crate::pec::pec;
-use crate::refusal::{CHAR, CRC, FORM, LENGTH, PAIRS};
+use crate::refusal::{Refusal, CHAR, CRC, FORM, LENGTH, PAIRS};
+use crate::table::first_broken_field;
 
 pub const DEVICE_WRITE: u8 = 0xC0;
-const HEADER_TAG: u8 = 0x49;
-const WRITE_TAG: u8 = 0x00;
+
+/// The place of the length byte's first digit, behind the two of the tag.
+const LENGTH_PLACE: usize = 3;
 
 /// A good line, without its length byte.
 pub struct Line {
@@ -49,60 +52,44 @@ fn digit_value(byte: u8) -> Option<u8> {
 }
 
 /// Reads the line of this number (from 1), trying 2 to 6 in order.
-pub fn read_line(text: &[u8], number: usize) -> Result<Line, u8> {
-    let digits: Option<Vec<u8>> = text.iter().map(|&byte| digit_value(byte)).collect();
-    let digits = digits.ok_or(CHAR)?;
+pub fn read_line(text: &[u8], line: usize) -> Result<Line, Refusal> {
+    let refuse = |number, place| Refusal {
+        number,
+        line,
+        place,
+    };
+    let digits = digits_of(text).map_err(|place| refuse(CHAR, place))?;
     if digits.len() % 2 == 1 || digits.len() < 10 || digits.len() > 74 {
-        return Err(PAIRS);
+        return Err(refuse(PAIRS, digits.len() + 1));
     }
     let bytes: Vec<u8> = digits
         .chunks(2)
         .map(|pair| pair[0] * 16 + pair[1])
         .collect();
     if usize::from(bytes[1]) != bytes.len() - 2 {
-        return Err(LENGTH);
+        return Err(refuse(LENGTH, LENGTH_PLACE));
     }
     let last = bytes.len() - 1;
     if pec(&bytes[2..last]) != bytes[last] {
-        return Err(CRC);
+        return Err(refuse(CRC, digits.len() - 1));
     }
-    let line = Line {
+    let read = Line {
         tag: bytes[0],
         address: bytes[2],
         command: bytes[3],
         data: bytes[4..last].to_vec(),
         crc: bytes[last],
     };
-    if fits_table(&line, number) {
-        Ok(line)
-    } else {
-        Err(FORM)
+    match first_broken_field(&read, line) {
+        Some(place) => Err(refuse(FORM, place)),
+        None => Ok(read),
     }
 }
 
-/// The table of "Lines of the file". Rows 1 to 4 go by the line's number alone.
-fn fits_table(line: &Line, number: usize) -> bool {
-    let count = line.data.len();
-    let (tag, command_and_data) = match number {
-        1 => (HEADER_TAG, line.command == 0xAD && count == 4),
-        2 => (HEADER_TAG, line.command == 0xAE && count == 4),
-        3 => (
-            HEADER_TAG,
-            line.command == 0x01 && (1..=32).contains(&count),
-        ),
-        4 => (
-            HEADER_TAG,
-            line.command == 0x02 && (1..=32).contains(&count),
-        ),
-        _ => (WRITE_TAG, fits_write_row(line.command, count)),
-    };
-    line.tag == tag && line.address == DEVICE_WRITE && command_and_data
-}
-
-fn fits_write_row(command: u8, count: usize) -> bool {
-    match command {
-        0xC7 | 0xE7 => count == 2,
-        0xC5 | 0xC6 => count == 4,
-        _ => false,
-    }
+/// The values of a line's digits, or the place of the first byte that is none.
+fn digits_of(text: &[u8]) -> Result<Vec<u8>, usize> {
+    (1..)
+        .zip(text)
+        .map(|(place, &byte)| digit_value(byte).ok_or(place))
+        .collect()
 }

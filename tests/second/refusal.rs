@@ -13,13 +13,20 @@ pub const BURN: u8 = 10;
 pub const SPOT: u8 = 11;
 pub const SAME: u8 = 13;
 
-/// A refusal: its number, and the line (0 for 1 and from 7 on).
+/// A refusal: its number, the line, and the place in the line (request R-1), both counted from 1.
+/// Line and place are 0 for 1 and from 7 on.
 #[derive(Clone, Copy)]
 pub struct Refusal {
     pub number: u8,
     pub line: usize,
+    pub place: usize,
 }
 
+/// A refusal that no line has.
 pub fn refuse_whole(number: u8) -> Refusal {
-    Refusal { number, line: 0 }
+    Refusal {
+        number,
+        line: 0,
+        place: 0,
+    }
 }

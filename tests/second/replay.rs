@@ -69,22 +69,25 @@ pub fn replay(input: &[u8]) -> String {
 fn replay_parsed(dry_run: &DryRun) -> String {
     match begin(&dry_run.settings, dry_run.file) {
         Ok(image) => replay_accepted(dry_run, &image),
-        Err(refusal) => verdict_line(refusal.number, 0, refusal.line) + &count_line(0, false),
+        Err(refusal) => {
+            verdict_line(refusal.number, 0, refusal.line, refusal.place) + &count_line(0, false)
+        }
     }
 }
 
 fn replay_accepted(dry_run: &DryRun, image: &Image) -> String {
     let mut host = Host::new(&dry_run.replies);
     let how_it_stands = match run(&mut host, &dry_run.settings, image) {
-        Ok(()) => verdict_line(DONE, 0, 0),
-        Err(Stop::Verdict { number, config }) => verdict_line(number, config, 0),
+        Ok(()) => verdict_line(DONE, 0, 0, 0),
+        Err(Stop::Verdict { number, config }) => verdict_line(number, config, 0, 0),
         Err(Stop::Waiting) => "waiting\n".to_string(),
     };
     host.log + &how_it_stands + &count_line(host.count, host.burn)
 }
 
-fn verdict_line(number: u8, config: usize, line: usize) -> String {
-    format!("verdict {number} config {config} line {line}\n")
+/// Line and place are 0 unless a line of the file refused the begin.
+fn verdict_line(number: u8, config: usize, line: usize, place: usize) -> String {
+    format!("verdict {number} config {config} line {line} at {place}\n")
 }
 
 fn count_line(count: u32, burn: bool) -> String {

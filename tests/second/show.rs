@@ -1,12 +1,22 @@
 //! "The printing program".
 
 use crate::file::{check_file, Image};
+use crate::refusal::Refusal;
 
 pub fn show(text: &[u8]) -> String {
     match check_file(text) {
         Ok(image) => show_accepted(&image),
-        Err(refusal) => format!("refused {} line {}\n", refusal.number, refusal.line),
+        Err(refusal) => show_refused(&refusal),
     }
+}
+
+fn show_refused(refusal: &Refusal) -> String {
+    let Refusal {
+        number,
+        line,
+        place,
+    } = refusal;
+    format!("refused {number} line {line} at {place}\n")
 }
 
 fn show_accepted(image: &Image) -> String {
