@@ -1,7 +1,7 @@
 //! Case files: one text each.
 //!
-//! A label begins with `want0`, with `want5at7` (number 5, line 7), or with `open` where the
-//! answer is not known from the making of the case.
+//! A label begins with `want0`, with `want5at7p13` (number 5, line 7, place 13), with `want9` (of the
+//! whole file), or with `open` where the answer is not known from the making of the case.
 
 mod burns;
 mod counts;
@@ -9,7 +9,7 @@ mod cutting;
 mod digits;
 mod headers;
 mod line_faults;
-mod numbers;
+mod long_lines;
 mod random_changes;
 mod rows;
 mod seals;
@@ -18,18 +18,16 @@ mod spots;
 mod whole_faults;
 
 use crate::draft::{Draft, Kind, BOTH};
+use crate::ending::{At, WHOLE};
 use crate::list::{Case, List};
 use crate::random::Rng;
-use crate::text::{join, render, texts_of, Ends, Letters, Style, ALL_ENDS, ALL_LETTERS};
+use crate::text::{render, with_line, Ends, Letters, Style, ALL_ENDS, ALL_LETTERS};
 
 pub const PLAIN: Style = Style {
     letters: Letters::Capital,
     ends: Ends::Lf,
     last_end: true,
 };
-
-/// Bytes beside the digits, and others that are easily let through.
-const NO_DIGITS: &[u8] = b"/:@G`g \t\0.-+xX_\x0B\x0C\x1A\x7F\x80\x85\xC5\xFF";
 
 pub struct Files {
     pub rng: Rng,
@@ -56,12 +54,11 @@ impl Files {
     }
 
     /// `number` 0 stands for an accepted file.
-    pub fn want(&mut self, number: u8, line: usize, label: &str, text: &[u8]) {
+    pub fn want(&mut self, number: u8, at: At, label: &str, text: &[u8]) {
         if number == 0 {
             self.accept(label, text);
         } else {
-            self.list
-                .put(&format!("want{number}at{line}-{label}"), text);
+            self.list.put(&format!("want{number}{at}-{label}"), text);
         }
     }
 
@@ -87,10 +84,7 @@ impl Files {
 
     /// A draft in a random style, one line's text being replaced.
     pub fn with_line(&mut self, draft: &Draft, number: usize, text: &[u8]) -> Vec<u8> {
-        let mut texts = texts_of(draft);
-        texts[number - 1] = text.to_vec();
-        let style = Style::random(&mut self.rng);
-        join(&mut self.rng, &texts, style)
+        with_line(&mut self.rng, draft, number, text)
     }
 }
 
@@ -100,12 +94,19 @@ impl Files {
         self.ends_of_lines();
         self.every_character();
         self.characters();
+        self.several_characters();
         self.digit_counts();
+        self.odd_counts();
+        self.long_lines();
         self.header_data_counts();
         self.wrong_fields();
+        self.fields_together();
+        self.counts_of_write_rows();
         self.rows_in_other_places();
+        self.rows_by_number();
         self.lengths();
         self.crcs();
+        self.crcs_of_every_length();
         self.faults_together();
         self.faults_on_two_lines();
     }
@@ -148,7 +149,7 @@ impl Files {
 
     fn put_whole(&mut self, number: u8, label: &str, draft: &Draft) {
         let text = self.styled(draft);
-        self.want(number, 0, label, &text);
+        self.want(number, WHOLE, label, &text);
     }
 
     /// Every configuration of every k up to a bound, with a fresh draft.

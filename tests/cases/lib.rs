@@ -10,11 +10,13 @@ pub mod examples;
 mod files;
 pub mod line;
 mod list;
+mod numbers;
 pub mod random;
 mod sessions;
+mod spoil;
 pub mod text;
 
-pub use ending::{Ending, Made};
+pub use ending::{at, At, Ending, Made, WHOLE};
 pub use files::files;
 pub use list::Case;
 pub use sessions::sessions;

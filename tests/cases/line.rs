@@ -9,6 +9,29 @@ pub const ADDRESS: u8 = 0xC0;
 /// The burn's command and data.
 pub const BURN: (u8, [u8; 2]) = (0xE7, [0x08, 0x00]);
 
+/// The commands that a line of this number takes, each with the fewest and the most data bytes.
+fn row(number: usize) -> &'static [(u8, usize, usize)] {
+    match number {
+        1 => &[(0xAD, 4, 4)],
+        2 => &[(0xAE, 4, 4)],
+        3 => &[(0x01, 1, 32)],
+        4 => &[(0x02, 1, 32)],
+        _ => &[(0xC7, 2, 2), (0xE7, 2, 2), (0xC5, 4, 4), (0xC6, 4, 4)],
+    }
+}
+
+/// Whether a line of this number takes a command with some count of data bytes.
+pub fn takes_command(number: usize, command: u8) -> bool {
+    row(number).iter().any(|&(takes, _, _)| takes == command)
+}
+
+/// Whether a line of this number takes a command with so many data bytes.
+pub fn takes(number: usize, command: u8, count: usize) -> bool {
+    row(number)
+        .iter()
+        .any(|&(takes, low, high)| takes == command && (low..=high).contains(&count))
+}
+
 /// The packet error code, whole bytes shifted by the polynomial 107.
 pub fn pec(bytes: &[u8]) -> u8 {
     bytes.iter().fold(0, |before, byte| {

@@ -1,8 +1,9 @@
 //! Case sessions: inputs of dry runs.
 //!
-//! A label begins with `want24` (verdict 24), `want31n2` (31 with N 2), `want5at7` (a refused
-//! begin with number 5 and line 7), `waiting`, `cutshort`, `toolong`, or `open` where the answer
-//! is not known from the making of the case.
+//! A label begins with `want24` (verdict 24, or a begin that 14 or the whole file's number refuses),
+//! `want31n2` (31 with N 2), `want5at7p13` (a begin refused with number 5, line 7 and place 13),
+//! `waiting`, `cutshort`, `toolong`, or `open` where the answer is not known from the making of the
+//! case.
 
 mod done;
 mod going_on;

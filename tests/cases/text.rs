@@ -98,3 +98,11 @@ pub fn texts_of(draft: &Draft) -> Vec<Vec<u8>> {
 pub fn render(rng: &mut Rng, draft: &Draft, style: Style) -> Vec<u8> {
     join(rng, &texts_of(draft), style)
 }
+
+/// A draft in a random style, one line's text being replaced.
+pub fn with_line(rng: &mut Rng, draft: &Draft, number: usize, text: &[u8]) -> Vec<u8> {
+    let mut texts = texts_of(draft);
+    texts[number - 1] = text.to_vec();
+    let style = Style::random(rng);
+    join(rng, &texts, style)
+}

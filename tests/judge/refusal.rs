@@ -2,17 +2,25 @@
 
 use std::io;
 
-use cases::{Case, Ending, Made};
+use cases::{Case, Ending, Made, WHOLE};
 
 use crate::entries::{Entries, Entry};
 use crate::identities::each_is_judged;
 use crate::programs::Program;
-use crate::seeded::{compare_all, fault_of, settled, tally};
-use crate::show::FLOOR;
+use crate::seeded::{compare_all, fault_of, settled, tally, Floor};
 use crate::tally::Answers;
 use crate::Judged;
 
 const SEED: u64 = 20220402;
+
+/// All but 12, which is unused (request R-9).
+const FLOOR: Floor = Floor {
+    cases: 1_500,
+    times: 20,
+    answers: &[
+        " 0", " 1", " 2", " 3", " 4", " 5", " 6", " 7", " 8", " 9", "10", "11", "13",
+    ],
+};
 
 pub fn run(seed: Option<u64>) -> Judged {
     let program = Program::of_entries()?;
@@ -25,23 +33,23 @@ pub fn run(seed: Option<u64>) -> Judged {
     Ok(null_pointer_is_no_text(&program) && identities && enough)
 }
 
-/// The entry gives a number alone, so a case's line is taken as it was made.
+/// The entry gives a number alone, so a case's line and place are taken as they were made.
 pub fn answers(entries: &mut Entries, case: &Case) -> io::Result<Answers> {
     let ours = entries.ask(Entry::Refusal, &case.bytes)?;
     let theirs = second::number(&case.bytes);
-    let line = match case.made {
-        Made::For(Ending::Number { line, .. }) => line,
-        _ => 0,
+    let at = match case.made {
+        Made::For(Ending::Number { at, .. }) => at,
+        _ => WHOLE,
     };
     let ending = Ending::Number {
         number: theirs,
         config: 0,
-        line,
+        at,
     };
     Ok(Answers {
         ours: vec![ours],
         theirs: vec![theirs],
-        word: ending.word(),
+        word: format!("{theirs:>2}"),
         fault: fault_of(case, Some(ending)),
     })
 }

@@ -16,7 +16,8 @@ pub const REPLAY: Printing = Printing {
         cases: 400,
         times: 10,
         answers: &[
-            " 0", "14", "20", "21", "22", "23", "24", "25", "26", "27", "28", "29", "30", "31",
+            " 0", " 2", " 3", " 4", " 5", " 6 at 1", " 6 at 5", " 6 at 7", " 6 at 9", "14", "20",
+            "21", "22", "23", "24", "25", "26", "27", "28", "29", "30", "31",
         ],
     },
 };
@@ -36,7 +37,9 @@ fn ending_of(printed: &str) -> Option<Ending> {
         ["waiting"] => Some(Ending::Waiting),
         ["cut", "short"] => Some(Ending::CutShort),
         ["too", "long"] => Some(Ending::TooLong),
-        ["verdict", number, "config", config, "line", line] => Ending::number(number, config, line),
+        ["verdict", number, "config", config, "line", line, "at", place] => {
+            Ending::number(number, config, line, place)
+        }
         _ => None,
     }
 }

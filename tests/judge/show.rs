@@ -15,12 +15,13 @@ pub const SHOW: Printing = Printing {
     floor: FLOOR,
 };
 
-/// All but 12, which is unused (request R-9).
-pub const FLOOR: Floor = Floor {
+/// All but 12, which is unused (request R-9), and FORM at each of its places (request R-1).
+const FLOOR: Floor = Floor {
     cases: 1_500,
     times: 20,
     answers: &[
-        " 0", " 1", " 2", " 3", " 4", " 5", " 6", " 7", " 8", " 9", "10", "11", "13",
+        " 0", " 1", " 2", " 3", " 4", " 5", " 6 at 1", " 6 at 5", " 6 at 7", " 6 at 9", " 7", " 8",
+        " 9", "10", "11", "13",
     ],
 };
 
@@ -28,8 +29,8 @@ pub const FLOOR: Floor = Floor {
 fn ending_of(printed: &str) -> Option<Ending> {
     let words: Vec<&str> = printed.lines().next()?.split(' ').collect();
     match words[..] {
-        ["ok", ..] => Ending::number("0", "0", "0"),
-        ["refused", number, "line", line] => Ending::number(number, "0", line),
+        ["ok", ..] => Ending::number("0", "0", "0", "0"),
+        ["refused", number, "line", line, "at", place] => Ending::number(number, "0", line, place),
         _ => None,
     }
 }

@@ -1,9 +1,9 @@
 //! The burn missing at the end, or standing earlier: BURN.
 
-use super::numbers::BURNS;
 use super::Files;
 use crate::draft::BOTH;
 use crate::line::{burn, write, BURN};
+use crate::numbers::BURNS;
 
 impl Files {
     pub(super) fn last_line_no_burn(&mut self) {

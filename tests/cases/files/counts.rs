@@ -1,9 +1,10 @@
 //! Too few lines, and numbers of lines that fit no k: COUNT.
 
-use super::numbers::{COUNT, DEVICE, REVISION};
 use super::{Files, PLAIN};
 use crate::draft::{Draft, Kind, BOTH};
+use crate::ending::WHOLE;
 use crate::line::{burn, header, random_write, write};
+use crate::numbers::{COUNT, DEVICE, REVISION};
 use crate::text::{join, texts_of};
 
 pub(super) const BAD_REVISION: [u8; 4] = [0x05, 0x00, 0x06, 0x07];
@@ -100,7 +101,7 @@ impl Files {
                 let filler = write(0xC7, &self.rng.bytes(2));
                 draft.lines.splice(last..last, vec![filler; more]);
                 let text = join(&mut self.rng, &texts_of(&draft), PLAIN);
-                self.want(COUNT, 0, &format!("{}-k{k}", kind.name()), &text);
+                self.want(COUNT, WHOLE, &format!("{}-k{k}", kind.name()), &text);
             }
         }
     }

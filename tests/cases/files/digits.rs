@@ -1,8 +1,10 @@
 //! Bytes that are no digits, and lines with too few or too many digits: CHAR and PAIRS.
 
-use super::numbers::{CHAR, FORM, PAIRS};
-use super::{Files, NO_DIGITS, PLAIN};
-use crate::line::{header, line, ADDRESS, HEADER, WRITE};
+use super::{Files, PLAIN};
+use crate::ending::at;
+use crate::line::{header, line, takes, ADDRESS, HEADER, WRITE};
+use crate::numbers::{CHAR, FORM, PAIRS};
+use crate::spoil::{put_no_digits, Field, NO_DIGITS};
 use crate::text::{capital, join, texts_of};
 
 impl Files {
@@ -20,7 +22,7 @@ impl Files {
             if byte.is_ascii_hexdigit() || byte == b'\n' {
                 self.open(&label, &text);
             } else {
-                self.want(CHAR, number, &label, &text);
+                self.want(CHAR, at(number, place + 1), &label, &text);
             }
         }
     }
@@ -34,7 +36,31 @@ impl Files {
             let place = self.rng.pick(&[0, 1, 8, last - 1, last]);
             digits[place] = byte;
             let text = self.with_line(&draft, number, &digits);
-            self.want(CHAR, number, &format!("char-{byte:02x}"), &text);
+            let label = format!("char-{byte:02x}");
+            self.want(CHAR, at(number, place + 1), &label, &text);
+        }
+    }
+
+    /// Two or three bytes that are no digits, beside each other or far apart: the first is given.
+    pub(super) fn several_characters(&mut self) {
+        for turn in 0..9 {
+            let draft = self.small_draft();
+            let number = self.places(&draft)[turn];
+            let good = capital(draft.get(number));
+            let last = good.len();
+            let (early, late) = (self.rng.from_to(1, 9), self.rng.from_to(10, last));
+            for places in [
+                vec![last, 1],
+                vec![1, 2, 3],
+                vec![last - 1, last],
+                vec![late, early],
+            ] {
+                let mut digits = good.clone();
+                let place = put_no_digits(&mut self.rng, &mut digits, &places);
+                let text = self.with_line(&draft, number, &digits);
+                let label = format!("chars-{}", places.len());
+                self.want(CHAR, at(number, place), &label, &text);
+            }
         }
     }
 
@@ -54,10 +80,25 @@ impl Files {
             ] {
                 let digits = self.digits_of_count(count, tag, command);
                 let text = self.with_line(&draft, number, &digits);
-                let wanted = number_for_count(count, command);
+                let (wanted, place) = fault_of_count(number, command, count);
                 // An empty last line would be none, but none of these is the last.
-                self.want(wanted, number, &format!("digits-{count}"), &text);
+                let label = format!("digits-{count}");
+                self.want(wanted, at(number, place), &label, &text);
             }
+        }
+    }
+
+    /// Every odd count to past the most that a line may have, on any line.
+    pub(super) fn odd_counts(&mut self) {
+        for count in (1..80).step_by(2) {
+            let draft = self.small_draft();
+            let turn = self.rng.below(9);
+            let number = self.places(&draft)[turn];
+            let mut digits = capital(draft.get(number));
+            digits.resize(count, b'0');
+            let text = self.with_line(&draft, number, &digits);
+            let label = format!("digits-odd-{count}");
+            self.want(PAIRS, at(number, count + 1), &label, &text);
         }
     }
 
@@ -75,34 +116,22 @@ impl Files {
                 let draft = self.small_draft();
                 let data = self.rng.bytes(count);
                 let text = self.with_line(&draft, number, &capital(&header(command, &data)));
-                let wanted = match count {
-                    0 => FORM,
-                    1..=32 => 0,
-                    _ => PAIRS,
-                };
-                self.want(
-                    wanted,
-                    number,
-                    &format!("header-{number}-data-{count}"),
-                    &text,
-                );
+                let digits = 10 + 2 * count;
+                let (wanted, place) = fault_of_count(number, command, digits);
+                let label = format!("header-{number}-data-{count}");
+                self.want(wanted, at(number, place), &label, &text);
             }
         }
     }
 }
 
-/// The number for a line of this many digits that is right in everything else.
-fn number_for_count(count: usize, command: u8) -> u8 {
-    let data_fits = match command {
-        0x01 | 0x02 => count >= 12,
-        0xC7 => count == 14,
-        _ => count == 18,
-    };
-    if count % 2 == 1 || !(10..=74).contains(&count) {
-        PAIRS
-    } else if data_fits {
-        0
+/// The number and the place for a line of this many digits that is right in everything else.
+fn fault_of_count(number: usize, command: u8, digits: usize) -> (u8, usize) {
+    if digits % 2 == 1 || !(10..=74).contains(&digits) {
+        (PAIRS, digits + 1)
+    } else if takes(number, command, digits / 2 - 5) {
+        (0, 0)
     } else {
-        FORM
+        (FORM, Field::DataCount.place())
     }
 }

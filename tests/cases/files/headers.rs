@@ -1,9 +1,9 @@
 //! Identities and revisions that are accepted, and others: DEVICE and REVISION.
 
-use super::numbers::{COUNT, DEVICE, REVISION};
 use super::Files;
 use crate::draft::{identity_of, BOTH, PARTS};
 use crate::line::header;
+use crate::numbers::{COUNT, DEVICE, REVISION};
 
 impl Files {
     pub(super) fn identities(&mut self) {

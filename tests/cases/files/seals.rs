@@ -1,8 +1,10 @@
 //! Wrong length bytes and wrong last bytes: LENGTH and CRC.
 
-use super::numbers::{CRC, LENGTH};
 use super::Files;
+use crate::ending::at;
 use crate::line::{header, pec};
+use crate::numbers::{CRC, LENGTH};
+use crate::spoil::LENGTH_PLACE;
 use crate::text::capital;
 
 impl Files {
@@ -16,12 +18,8 @@ impl Files {
                 let mut bytes = draft.get(number).to_vec();
                 bytes[1] = wrong;
                 let text = self.with_line(&draft, number, &capital(&bytes));
-                self.want(
-                    LENGTH,
-                    number,
-                    &format!("length-{wrong}-for-{right}"),
-                    &text,
-                );
+                let label = format!("length-{wrong}-for-{right}");
+                self.want(LENGTH, at(number, LENGTH_PLACE), &label, &text);
             }
         }
         for turn in 2..9 {
@@ -32,11 +30,21 @@ impl Files {
             let mut longer = draft.get(number).to_vec();
             longer.insert(4, 0x00);
             let text = self.with_line(&draft, number, &capital(&longer));
-            self.want(LENGTH, number, "length-one-byte-more", &text);
+            self.want(
+                LENGTH,
+                at(number, LENGTH_PLACE),
+                "length-one-byte-more",
+                &text,
+            );
             let mut shorter = draft.get(number).to_vec();
             shorter.remove(4);
             let text = self.with_line(&draft, number, &capital(&shorter));
-            self.want(LENGTH, number, "length-one-byte-less", &text);
+            self.want(
+                LENGTH,
+                at(number, LENGTH_PLACE),
+                "length-one-byte-less",
+                &text,
+            );
         }
     }
 
@@ -58,8 +66,25 @@ impl Files {
                     let mut bytes = good.clone();
                     bytes[last] = wrong;
                     let text = self.with_line(&draft, number, &capital(&bytes));
-                    self.want(CRC, number, &format!("crc-{label}"), &text);
+                    let at = at(number, 2 * last + 1);
+                    self.want(CRC, at, &format!("crc-{label}"), &text);
                 }
+            }
+        }
+    }
+
+    /// A wrong last byte on lines 3 and 4 with every count of data bytes. Without data the line also
+    /// breaks the table, which is tried after.
+    pub(super) fn crcs_of_every_length(&mut self) {
+        for (number, command) in [(3, 0x01), (4, 0x02)] {
+            for count in 0..=32 {
+                let draft = self.small_draft();
+                let mut bytes = header(command, &self.rng.bytes(count));
+                bytes[count + 4] ^= 1 << self.rng.below(8);
+                let text = self.with_line(&draft, number, &capital(&bytes));
+                let digits = 10 + 2 * count;
+                let label = format!("crc-of-{digits}-digits");
+                self.want(CRC, at(number, digits - 1), &label, &text);
             }
         }
     }

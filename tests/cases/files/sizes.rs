@@ -2,7 +2,9 @@
 
 use super::Files;
 use crate::draft::{Draft, BOTH};
+use crate::ending::{at, At, WHOLE};
 use crate::line::{line, ADDRESS, WRITE};
+use crate::numbers::{CHAR, COUNT, CRC, PAIRS, SIZE};
 use crate::random::Rng;
 
 const SIZES: [usize; 7] = [65_535, 65_536, 65_537, 65_538, 65_600, 66_000, 131_072];
@@ -13,30 +15,38 @@ impl Files {
         for size in SIZES {
             let short_enough = size <= LIMIT;
             let mut rng = Rng::new(self.rng.next());
-            let mut put = |label: &str, (number, line): (u8, usize), text: Vec<u8>| {
+            let mut put = |label: &str, number: u8, at: At, text: Vec<u8>| {
                 assert_eq!(text.len(), size);
-                let (number, line) = if short_enough { (number, line) } else { (1, 0) };
-                self.want(number, line, &format!("size-{size}-{label}"), &text);
+                let (number, at) = if short_enough {
+                    (number, at)
+                } else {
+                    (SIZE, WHOLE)
+                };
+                self.want(number, at, &format!("size-{size}-{label}"), &text);
             };
             for kind in BOTH {
                 let draft = Draft::random(&mut rng, kind, 8);
                 let (good, _) = filled_up(&draft, size);
-                put(&format!("good-{}", kind.name()), (7, 0), good.clone());
+                put(&format!("good-{}", kind.name()), COUNT, WHOLE, good.clone());
 
                 let mut first_wrong = good.clone();
                 first_wrong[0] = b'G';
-                put("good-but-char-at-1", (2, 1), first_wrong);
+                put("good-but-char-at-1", CHAR, at(1, 1), first_wrong);
 
                 let (mut last_wrong, lines) = filled_up(&draft, size);
                 last_wrong[size - 2] = b'B';
-                put("good-but-crc-at-last", (5, lines), last_wrong);
+                // The burn has 14 digits.
+                put("good-but-crc-at-last", CRC, at(lines, 13), last_wrong);
             }
-            put("zeros", (3, 1), vec![b'0'; size]);
-            put("line-feeds", (3, 1), vec![b'\n'; size]);
-            put("carriage-returns", (2, 1), vec![b'\r'; size]);
+            put("zeros", PAIRS, at(1, size + 1), vec![b'0'; size]);
+            let mut last_bad = vec![b'0'; size];
+            last_bad[size - 1] = b'\r';
+            put("zeros-but-char-at-last", CHAR, at(1, size), last_bad);
+            put("line-feeds", PAIRS, at(1, 1), vec![b'\n'; size]);
+            put("carriage-returns", CHAR, at(1, 1), vec![b'\r'; size]);
             let mut garbage = rng.bytes(size);
             garbage[0] = 0x80 | garbage[0];
-            put("garbage", (2, 1), garbage);
+            put("garbage", CHAR, at(1, 1), garbage);
         }
     }
 }

@@ -1,9 +1,10 @@
 //! Identifier and CRC lines that carry something else, and equal identifiers: SPOT and SAME.
 
-use super::numbers::{SAME, SPOT};
 use super::{Files, PLAIN};
 use crate::draft::{Draft, Kind, BOTH};
+use crate::ending::WHOLE;
 use crate::line::write;
+use crate::numbers::{SAME, SPOT};
 use crate::text::{join, texts_of, Letters, Style};
 
 impl Files {
@@ -91,7 +92,7 @@ impl Files {
                 ..PLAIN
             },
         );
-        self.want(SAME, 0, "same-in-capital-and-small", &text);
+        self.want(SAME, WHOLE, "same-in-capital-and-small", &text);
     }
 
     pub(super) fn set_identifier(&mut self, draft: &mut Draft, config: usize, identifier: u8) {

@@ -1,11 +1,13 @@
 //! Several faults of the whole file, and a faulty line before them.
 
 use super::counts::{BAD_IDENTITY, BAD_REVISION};
-use super::numbers::{BURNS, COUNT, DEVICE, REVISION, SAME, SPOT};
 use super::Files;
 use crate::draft::{Draft, Kind, BOTH};
+use crate::ending::at;
 use crate::line::{burn, header, write};
 use crate::list::names;
+use crate::numbers::{BURNS, COUNT, DEVICE, PAIRS, REVISION, SAME, SPOT};
+use crate::spoil::spoiled;
 use crate::text::capital;
 
 /// The numbers for whole files in their order, 7 for n standing after 9.
@@ -32,27 +34,25 @@ impl Files {
                 let kind = self.rng.kind();
                 let draft = self.whole_spoiled(kind, &[whole_fault]);
                 let number = self.rng.from_to(1, draft.n());
-                let digits = self.spoil(draft.get(number), &[line_fault]);
-                let text = self.with_line(&draft, number, &digits);
                 let label = format!("line-{line_fault}-before-{whole_fault}");
-                self.want(line_fault, number, &label, &text);
+                self.put_line_fault(&draft, number, line_fault, &label);
             }
             let short = self.shortened(Kind::Legacy, 12);
-            let digits = self.spoil(short.get(12), &[line_fault]);
-            let text = self.with_line(&short, 12, &digits);
-            self.want(
-                line_fault,
-                12,
-                &format!("line-{line_fault}-before-under-13"),
-                &text,
-            );
+            let label = format!("line-{line_fault}-before-under-13");
+            self.put_line_fault(&short, 12, line_fault, &label);
         }
         // The last line's fault is that it is not the burn and not even good.
         let draft = self.small_draft();
         let mut last = capital(draft.get(draft.n()));
         last.pop();
         let text = self.with_line(&draft, draft.n(), &last);
-        self.want(3, draft.n(), "line-3-on-the-burn", &text);
+        self.want(PAIRS, at(draft.n(), 14), "line-3-on-the-burn", &text);
+    }
+
+    fn put_line_fault(&mut self, draft: &Draft, number: usize, fault: u8, label: &str) {
+        let (place, digits) = spoiled(&mut self.rng, number, draft.get(number), &[fault]);
+        let text = self.with_line(draft, number, &digits);
+        self.want(fault, at(number, place), label, &text);
     }
 
     /// A draft with two configurations and the wanted whole-file faults. Faults of spots and

@@ -90,7 +90,7 @@ impl Sessions {
             self.put_bytes("cutshort-file-65600-missing", &header(settings, room));
             let number = if settings.poll_limit == 0 { 14 } else { 1 };
             let full = input(settings, &vec![b'\n'; ROOM_FOR_FILE], &[]);
-            self.put_bytes(&format!("want{number}at0-file-65600"), &full);
+            self.put_bytes(&format!("want{number}-file-65600"), &full);
             let over = input(settings, &vec![b'\n'; ROOM_FOR_FILE + 1], &[]);
             self.put_bytes("toolong-file-65601", &over);
         }

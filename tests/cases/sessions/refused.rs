@@ -3,7 +3,14 @@
 use super::{Sessions, RESERVED};
 use crate::device::input;
 use crate::draft::{identity_of, Draft};
+use crate::ending::{at, At, WHOLE};
 use crate::line::{burn, header, write};
+use crate::numbers::{BURNS, CHAR, COUNT, CRC, DEVICE, FORM, LENGTH, PAIRS};
+use crate::numbers::{REVISION, SAME, SIZE, SPOT};
+use crate::spoil::{broken_from, spoiled, Field, FIELDS};
+use crate::text::{capital, with_line};
+
+const OF_THE_FILE: [u8; 7] = [SIZE, COUNT, REVISION, DEVICE, BURNS, SPOT, SAME];
 
 impl Sessions {
     pub(super) fn refused_settings(&mut self) {
@@ -15,70 +22,101 @@ impl Sessions {
             session.settings.poll_limit = poll_limit;
             session.settings.restore_cfg = restore_cfg;
             let label = format!("limit{poll_limit}-restore{restore_cfg:02x}");
-            self.put(&format!("want14at0-{label}"), &session);
+            self.put(&format!("want14-{label}"), &session);
 
-            let number = self.rng.pick(&[1, 2, 3, 4, 5, 6, 7, 8, 9, 10, 11, 13]);
-            let (file, _) = self.refused_file(number);
+            let (number, file) = self.any_refused_file();
             let bytes = input(session.settings, &file, &session.replies());
-            self.put_bytes(&format!("want14at0-{label}-and-file-{number}"), &bytes);
+            self.put_bytes(&format!("want14-{label}-and-file-{number}"), &bytes);
+        }
+    }
+
+    fn any_refused_file(&mut self) -> (u8, Vec<u8>) {
+        if self.rng.once_in(2) {
+            let number = self.rng.pick(&OF_THE_FILE);
+            (number, self.refused_file(number))
+        } else {
+            let number = self.rng.pick(&[CHAR, PAIRS, LENGTH, CRC, FORM]);
+            (number, self.file_with_fault(number).1)
         }
     }
 
     pub(super) fn refused_files(&mut self) {
-        for number in [1, 2, 3, 4, 5, 6, 7, 8, 9, 10, 11, 13] {
+        for number in OF_THE_FILE {
             for turn in 0..3 {
-                let session = self.small_session();
-                let (file, line) = self.refused_file(number);
-                let replies = if turn == 0 {
-                    Vec::new()
-                } else {
-                    session.replies()
-                };
-                let bytes = input(session.settings, &file, &replies);
-                self.put_bytes(&format!("want{number}at{line}-file"), &bytes);
+                let file = self.refused_file(number);
+                self.put_refused(number, WHOLE, &file, turn > 0);
             }
         }
-        let session = self.small_session();
-        self.put_bytes("want7at0-no-file", &input(session.settings, b"", &[]));
+        for turn in 0..10 {
+            for number in [CHAR, PAIRS, LENGTH, CRC] {
+                let (at, file) = self.file_with_fault(number);
+                self.put_refused(number, at, &file, turn % 3 > 0);
+            }
+            for field in FIELDS {
+                let (at, file) = self.file_with_broken(field);
+                self.put_refused(FORM, at, &file, turn % 3 > 0);
+            }
+        }
+        self.put_refused(COUNT, WHOLE, b"", false);
+        self.put_refused(PAIRS, at(1, 65_537), &[b'0'; 65_536], false);
     }
 
-    /// A file refused with this number, and its line.
-    fn refused_file(&mut self, number: u8) -> (Vec<u8>, usize) {
+    /// A session that the file does not let begin, without replies or with those of another.
+    fn put_refused(&mut self, number: u8, at: At, file: &[u8], with_replies: bool) {
+        let session = self.small_session();
+        let replies = if with_replies {
+            session.replies()
+        } else {
+            Vec::new()
+        };
+        let bytes = input(session.settings, file, &replies);
+        self.put_bytes(&format!("want{number}{at}-file"), &bytes);
+    }
+
+    /// A file refused with this number, which no line has.
+    fn refused_file(&mut self, number: u8) -> Vec<u8> {
         let kind = self.rng.kind();
         let mut draft = Draft::random(&mut self.rng, kind, 2);
         let at = draft.free_line(&mut self.rng);
         match number {
-            1 => return (vec![b'0'; self.rng.from_to(65_537, 65_600)], 0),
-            2 | 3 => return (self.text_spoiled(&draft, at, number), at),
-            4 => draft.lines[at - 1][1] ^= 0x01,
-            5 => *draft.lines[at - 1].last_mut().expect("a line has bytes") ^= 0x10,
-            6 => draft.lines[at - 1][0] = 0x49,
-            7 => {
+            SIZE => return vec![b'0'; self.rng.from_to(65_537, 65_600)],
+            COUNT => {
                 draft.lines.remove(at - 1);
             }
-            8 => draft.set(2, header(0xAE, &[0x02, 0, 0, 0])),
-            9 => draft.set(1, header(0xAD, &identity_of(0x85))),
-            10 => draft.set(at, burn()),
-            11 => draft.set(draft.crc_line(1), write(0xC5, &[1, 2, 3, 4])),
+            REVISION => draft.set(2, header(0xAE, &[0x02, 0, 0, 0])),
+            DEVICE => draft.set(1, header(0xAD, &identity_of(0x85))),
+            BURNS => draft.set(at, burn()),
+            SPOT => draft.set(draft.crc_line(1), write(0xC5, &[1, 2, 3, 4])),
             _ => draft.set(draft.id_line(1), draft.get(draft.id_line(0)).to_vec()),
         }
-        let line = if (4..=6).contains(&number) { at } else { 0 };
-        (self.file(&draft), line)
+        self.file(&draft)
     }
 
-    /// Number 2: a digit that is none. Number 3: a digit too few.
-    fn text_spoiled(&mut self, draft: &Draft, at: usize, number: u8) -> Vec<u8> {
-        let mut text = draft.plain();
-        let start: usize = draft.lines[..at - 1]
-            .iter()
-            .map(|line| 2 * line.len() + 1)
-            .sum();
-        let place = start + self.rng.below(14);
-        if number == 2 {
-            text[place] = b'g';
+    /// A file with a line refused with this number, and where.
+    fn file_with_fault(&mut self, fault: u8) -> (At, Vec<u8>) {
+        let (draft, number) = self.draft_and_line();
+        let (place, digits) = spoiled(&mut self.rng, number, draft.get(number), &[fault]);
+        let file = with_line(&mut self.rng, &draft, number, &digits);
+        (at(number, place), file)
+    }
+
+    /// A file with a line whose first broken field is this one, and where.
+    fn file_with_broken(&mut self, field: Field) -> (At, Vec<u8>) {
+        let (draft, number) = self.draft_and_line();
+        let wrong = broken_from(&mut self.rng, number, draft.get(number), field);
+        let file = with_line(&mut self.rng, &draft, number, &capital(&wrong));
+        (at(number, field.place()), file)
+    }
+
+    /// A draft and the number of a line of it, of the header as often as behind it.
+    fn draft_and_line(&mut self) -> (Draft, usize) {
+        let kind = self.rng.kind();
+        let draft = Draft::random(&mut self.rng, kind, 2);
+        let number = if self.rng.once_in(2) {
+            self.rng.from_to(1, 4)
         } else {
-            text.remove(place);
-        }
-        text
+            self.rng.from_to(5, draft.n())
+        };
+        (draft, number)
     }
 }

@@ -1,5 +1,6 @@
 //! The numbers that a case is made for, by their names on the page.
 
+pub const SIZE: u8 = 1;
 pub const CHAR: u8 = 2;
 pub const PAIRS: u8 = 3;
 pub const LENGTH: u8 = 4;
