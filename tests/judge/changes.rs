@@ -1,6 +1,6 @@
 //! Random changes of a case: of a file's text, and of a dry run's input.
 
-use cases::line::pec;
+use cases::line::{line, pec};
 use cases::random::Rng;
 use cases::text::capital;
 
@@ -22,7 +22,7 @@ fn change_once(rng: &mut Rng, text: &mut Vec<u8>, other: &[u8]) {
         text.push(rng.byte());
     }
     let place = rng.below(text.len());
-    match rng.below(14) {
+    match rng.below(18) {
         0 => text[place] ^= 1 << rng.below(8),
         1 => text[place] = rng.byte(),
         2 => text[place] = rng.pick(b"0123456789ABCDEFabcdef"),
@@ -38,6 +38,8 @@ fn change_once(rng: &mut Rng, text: &mut Vec<u8>, other: &[u8]) {
         9 => small_letters(rng, text),
         10 => text.insert(place, rng.pick(b"\r\n 0Gg")),
         11 => spliced(rng, text, other),
+        12 => no_digits(rng, text),
+        13..=15 => reformed(rng, text),
         _ => resealed(rng, text),
     }
 }
@@ -130,21 +132,58 @@ fn spliced(rng: &mut Rng, text: &mut Vec<u8>, other: &[u8]) {
     text.extend_from_slice(&other[from..]);
 }
 
+/// Where a line lies, its end not counted: one of the header, one that has a use of its own, or any.
+fn some_span(rng: &mut Rng, text: &[u8]) -> (usize, usize) {
+    let spans = spans(text);
+    let last = spans.len() - 1;
+    let number = match rng.below(3) {
+        0 => rng.below(4),
+        1 => rng.pick(&[4, 11, 275, 289, last]),
+        _ => rng.below(spans.len()),
+    };
+    let (start, end) = spans[number.min(last)];
+    if end > start && text[end - 1] == b'\r' {
+        (start, end - 1)
+    } else {
+        (start, end)
+    }
+}
+
+/// One to three bytes of a line that are no digits, so that the first of them is the place.
+fn no_digits(rng: &mut Rng, text: &mut [u8]) {
+    let (start, end) = some_span(rng, text);
+    if start == end {
+        return;
+    }
+    for _ in 0..rng.from_to(1, 3) {
+        text[rng.from_to(start, end - 1)] = rng.pick(b"Gg /:@`\r\0\x80");
+    }
+}
+
+/// One or two fields of the table changed in a line, its length byte and CRC made right again, so
+/// that the fault is the table's.
+fn reformed(rng: &mut Rng, text: &mut Vec<u8>) {
+    let (start, end) = some_span(rng, text);
+    let bytes = match decoded(&text[start..end]) {
+        Some(bytes) if bytes.len() >= 5 => bytes,
+        _ => return,
+    };
+    let (mut tag, mut address, mut command) = (bytes[0], bytes[2], bytes[3]);
+    let mut data = bytes[4..bytes.len() - 1].to_vec();
+    for _ in 0..rng.from_to(1, 2) {
+        match rng.below(4) {
+            0 => tag = rng.pick(&[0x00, 0x49, 0x48, 0xC0]),
+            1 => address = rng.pick(&[0xC0, 0xC1, 0x40, 0x00]),
+            2 => command = rng.pick(&[0x01, 0x02, 0xAD, 0xAE, 0xC4, 0xC5, 0xC6, 0xC7, 0xE7]),
+            _ => data.resize(rng.pick(&[0, 1, 2, 3, 4, 5, 31, 32, 33]), 0x5A),
+        }
+    }
+    text.splice(start..end, capital(&line(tag, address, command, &data)));
+}
+
 /// One byte of a line changed and its CRC made right again, so that the fault lies deeper.
 fn resealed(rng: &mut Rng, text: &mut Vec<u8>) {
-    let spans = spans(text);
-    let number = if rng.once_in(3) {
-        rng.pick(&[0, 1, 11, 275, 289, spans.len() - 1])
-            .min(spans.len() - 1)
-    } else {
-        rng.below(spans.len())
-    };
-    let (start, end) = spans[number];
-    let end = if end > start && text[end - 1] == b'\r' {
-        end - 1
-    } else {
-        end
-    };
+    let (start, end) = some_span(rng, text);
     let mut bytes = match decoded(&text[start..end]) {
         Some(bytes) if bytes.len() >= 5 => bytes,
         _ => return,
