@@ -23,7 +23,8 @@ extern "C" {
 uint8_t tehilgam_pec(const uint8_t *bytes, size_t length);
 
 /* The refusal number of a HEX file, 0 if it is accepted (docs/NUMBERS.md lists the numbers, 1 to 11 and 13). The text is the whole
- * file as it stands, of any length; no text at all is 7, a file with too few lines.
+ * file as it stands, of any length; no text at all is 7, a file with too few lines. It is the number alone: `bin/tehilgam show` prints the
+ * line and the place in it too.
  */
 uint8_t tehilgam_refusal(const uint8_t *text, size_t length);
 

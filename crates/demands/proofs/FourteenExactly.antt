@@ -1,4 +1,4 @@
--- 14 exactly where a setting is out of its range; otherwise a refused file is reported by its own number and line. Assumes nothing.
+-- 14 exactly where a setting is out of its range; otherwise a refused file is reported by its own number, line and place. Assumes nothing.
 use Prim.Native.Nat.{ℕ}
 use mathlib.Core.Path.{_≡_, refl, sym, ap, _∙_}
 use mathlib.Core.List.{List}
