@@ -16,13 +16,11 @@ use Rattle.counts.specs.declared.LineNumber.{LineNumber}
 use Rattle.cuts.specs.Lines.{crLf, linesOf, lineSkip}
 use Rattle.line.specs.Digits.{digitVal, isDigit, allDigits, digitRun, valuesOf, digitBy, IsDigits}
 use Rattle.line.specs.Reading.{coveredOf, crcRight, readValues, readDigits, readLine, nextBy, nextOf, nextLine}
-use Rattle.line.specs.Places.{faultAt}
 use Rattle.line.specs.Lent.{endingOf, runAt, byEnding, lentNext}
-use Rattle.line.specs.declared.Fault.the-variants.{Char}
 use Rattle.line.specs.declared.Ending.{Ending}
 use Rattle.line.specs.declared.Ending.the-variants.{Other, Next}
 use Rattle.line.specs.declared.NextLine.{NextLine}
-use Rattle.line.specs.declared.NextLine.the-variants.{End, Stopped}
+use Rattle.line.specs.declared.NextLine.the-variants.{End}
 use Rattle.promise.proofs.Basics.{split}
 use Rattle.line.proofs.LineParts.{run-le, run-digits, values-lt, slice-get, slice-past}
 use Rattle.cuts.proofs.FirstLine.{lineLen, crlf-lf, lines-at}
@@ -130,8 +128,7 @@ module _ {digits table : List ℕ} (digitRule : IsDigits digits) (rule : IsTable
     unfolding byEnding readLine nextBy
     here t Other p =
         let q = unended t (at + run t) p in
-        let place : length (take (run t) t) + 1 ≡ run (take (lineLen t) t) + 1 = omega (arith, q .1, length-take-le (run t) t (run-le digitVal t)) in
-        rw (q .0) (ap (λ (k : ℕ). Stopped (faultAt Char k)) place)
+        rw (q .0) (cc (q .1, length-take-le (run t) t (run-le digitVal t)))
     here t (Next next) p =
         let q = ended t (at + run t) next p in
         let k : next ≡ at + lineSkip t = omega (arith, q .1) in
