@@ -1,3 +1,4 @@
 pub mod FirstLine
+pub mod TextExactly
 pub mod BlockCounts
 pub mod OneAnswer

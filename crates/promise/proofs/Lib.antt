@@ -1,3 +1,4 @@
 pub mod Basics
 pub mod Equal
+pub mod First
 pub mod Members

@@ -1,2 +1,3 @@
 pub mod One
 pub mod Lists
+pub mod First
