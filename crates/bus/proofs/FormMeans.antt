@@ -29,7 +29,7 @@ above-is : (q : Request) (kind : ℕ) (rs : List ℕ) → 1 < kind → formOf q 
 unfolding formOf
 above-is q kind rs h = rw (ne-eqb kind 0 (λ x. omega arith), lt-ltb 1 kind h)
 
-good-is : {q : Request} {kind : ℕ} {rs : List ℕ} {w : ℕ} → InForm q kind rs w → formOf q kind rs ≡ Good w
+pub good-is : {q : Request} {kind : ℕ} {rs : List ℕ} {w : ℕ} → InForm q kind rs w → formOf q kind rs ≡ Good w
 unfolding formOf doneForm framed readOf eight readForm sealedOf wordAt pecFrom
 good-is (wrote sent p) = refl
 good-is (registerRead address a b c d) =
@@ -43,7 +43,7 @@ good-is (blockRead address command a b c d) =
     let sealed : formOf (askBlock address command) 1 bs ≡ cond (eqb p p) (Good (wordAt bs 1)) Miscoded = refl in
     sealed ∙ rw (eq-eqb p p refl) (ap Good (omega arith))
 
-shape-is : {q : Request} {rs : List ℕ} → WrongShape q rs → formOf q 1 rs ≡ Misshapen
+pub shape-is : {q : Request} {rs : List ℕ} → WrongShape q rs → formOf q 1 rs ≡ Misshapen
 unfolding formOf doneForm framed readOf eight readForm
 shape-is (writeBytes sent p rs h) = rw (ne-eqb _ _ h)
 shape-is (registerBytes address rs h) = rw (ne-eqb _ _ h)
@@ -55,7 +55,7 @@ unfolding formOf doneForm framed readOf eight readForm sealedOf pecFrom
 code-is (registerCode address a b c d p h) = rw (ne-eqb _ _ (λ x. h (sym x)))
 code-is (blockCode address command a b c d p h) = rw (ne-eqb _ _ (λ x. h (sym x)))
 
-says-is : (q : Request) (kind : ℕ) (rs : List ℕ) (x : ReplyForm) → Says q kind rs x → formOf q kind rs ≡ x
+pub says-is : (q : Request) (kind : ℕ) (rs : List ℕ) (x : ReplyForm) → Says q kind rs x → formOf q kind rs ≡ x
 unfolding Says
 says-is q kind rs Unanswered e = unanswered-is q kind rs e
 says-is q kind rs Misshapen (inl h) = above-is q kind rs h

@@ -1,10 +1,16 @@
 -- What replies in form do not say of the requests: those that answer step 2 answer these too, in which other registers are pointed
--- to and the burn itself stands where the flag's register is pointed to. So specs/Asked.antt says the requests word for word, and
--- so does the headline. Assumes nothing.
+-- to and the burn itself stands where the flag's register is pointed to. So demand 2 and the headline say the requests word for word.
+-- Assumes nothing.
+use mathlib.Core.Path.{_≡_}
 use mathlib.Core.List.{List, [], _∷_}
+use Prim.Native.Nat.{ℕ}
 use Rattle.bus.specs.Bus.{framed, writeOf}
 use Rattle.guide.specs.Requests.{pointTo, readData, readBlock, device}
+use Rattle.bus.specs.declared.ReplyForm.the-variants.{Good}
 use Rattle.bus.specs.ReplyForm.{doneForm, formOf}
+use Rattle.bus.specs.InForm.{InForm, Says, Means}
+use Rattle.bus.proofs.FormMeans.{good-is, form-means}
+use Rattle.guide.proofs.Ways.{made-write}
 use Rattle.guide.specs.declared.Words.{Words}
 use Rattle.guide.specs.Plan.{Reply}
 use Rattle.guide.specs.Matched.{Exchange, wrote, got, Heard, none, more, heard2}
@@ -14,7 +20,14 @@ elsewhere read =
     wrote (pointTo 0x11 0x22) ∷ got readData (read .counter) ∷ got (readBlock 0xAD) (read .identity)
     ∷ wrote (writeOf device 0xE7 (0x08 ∷ 0x00 ∷ [])) ∷ got readData (read .flag) ∷ got (readBlock 0xAE) (read .revision) ∷ []
 
-pub blind : (read : Words) (rs : List Reply) → Heard (heard2 read) rs → Heard (elsewhere read) rs
-unfolding formOf doneForm writeOf framed
-blind read _ (more _ _ r1 _ e1 (more _ _ r2 _ e2 (more _ _ r3 _ e3 (more _ _ r4 _ e4 (more _ _ r5 _ e5 (more _ _ r6 _ e6 (none rs))))))) =
-    more _ _ r1 _ e1 (more _ _ r2 _ e2 (more _ _ r3 _ e3 (more _ _ r4 _ e4 (more _ _ r5 _ e5 (more _ _ r6 _ e6 (none rs))))))
+-- a write's reply does not tell what was written
+again : (command other : ℕ) (bs cs : List ℕ) {kind : ℕ} {rs : List ℕ} → InForm (writeOf device command bs) kind rs 0 → InForm (writeOf device other cs) kind rs 0
+unfolding writeOf Means Says formOf doneForm framed
+again command other bs cs {kind} {rs} i =
+    let e : formOf (writeOf device command bs) kind rs ≡ Good 0 = good-is i in
+    form-means (made-write other cs) kind rs (Good 0) .0 e
+
+pub blind : (read : Words) (rs left : List Reply) → Heard (heard2 read) rs left → Heard (elsewhere read) rs left
+blind read _ left (more _ _ r1 _ _ e1 (more _ _ r2 _ _ e2 (more _ _ r3 _ _ e3 (more _ _ r4 _ _ e4 (more _ _ r5 _ _ e5 (more _ _ r6 _ _ e6 (none rs))))))) =
+    more _ _ r1 _ left (again 0xC7 0xC7 _ _ e1) (more _ _ r2 _ left e2 (more _ _ r3 _ left e3
+    (more _ _ r4 _ left (again 0xC7 0xE7 _ _ e4) (more _ _ r5 _ left e5 (more _ _ r6 _ left e6 (none rs))))))

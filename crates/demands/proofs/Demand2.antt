@@ -1,50 +1,118 @@
--- Demand 2: each request and each verdict are what the steps give for the replies so far. Assumes nothing.
-use mathlib.Core.Path.{_≡_}
+-- Demand 2: each request and each verdict are what the steps give for the replies so far, and nothing else is. Assumes nothing.
+use mathlib.Core.Path.{_≡_, refl, sym, ap, _∙_}
+use mathlib.Core.Logic.{_⊎_, inl, inr}
 use mathlib.Core.List.{List}
-use Prim.Native.Nat.{ℕ}
-use Rattle.guide.specs.Plan.{Reply}
-use Rattle.guide.specs.Guide.{writeLinesOf, guideFor}
-use Rattle.session.specs.declared.Settings.{Settings}
-use Rattle.session.specs.Begin.{startOf, answeredOf, checkedOf, beginOf, newPosition, freshOf}
-use Rattle.demands.specs.Runs.{sent, after}
-use Rattle.demands.specs.Demands.{Premises, Demand2}
-use Rattle.demands.proofs.PremisesGive.{taken, lasting, facts}
-use Rattle.demands.proofs.SessionIsGuide.{Along, before, start-along, Room}
+use Prim.Native.Nat.{ℕ, _≤_}
 use native.Mathlib.Omega.{arith}
-use Rattle.session.specs.Terms.{termsOf}
-use Rattle.guide.specs.Statements.{Bounded}
-use Rattle.guide.proofs.Bounded.{bounded}
 use Rattle.summary.specs.declared.Summary.{Summary}
-use Rattle.session.specs.declared.Session.{Session}
+use Rattle.image.specs.Check.{checkOf}
+use Rattle.image.specs.Meets.{Meets}
+use Rattle.image.proofs.AcceptedExactly.{accepted-exactly}
+use Rattle.guide.specs.declared.Verdict.the-variants.{Done, Setting, File, Mismatch, Halted}
+use Rattle.summary.specs.Answers.{refusalTold}
+use Rattle.summary.proofs.Numbers.{refusal-number}
+use Rattle.bus.specs.declared.Request.{Request}
+use Rattle.guide.specs.declared.Target.{Target}
+use Rattle.guide.specs.declared.Words.{Words}
+use Rattle.guide.specs.Terms.{Terms}
+use Rattle.guide.specs.Plan.{Reply, Outcome, waiting, ended, verdict}
+use Rattle.guide.specs.Matched.{Exchange}
+use Rattle.guide.specs.Verdicts.{ReplyTable, NACK, SHAPE, PEC, FitTable, COUNTER, IDENTITY, FLAG, OLD, KIND, PLACES}
+use Rattle.guide.specs.Guide.{guideFor}
+use Rattle.guide.specs.Course.{Content, Now, over, nowOf, Judged, unfit, PROGRAM, BANKS, MISMATCH, DONE, Course, waits, refused, judged, CourseExactly}
+use Rattle.guide.specs.Course as course
+use Rattle.guide.proofs.CourseExactly.{course-exactly}
+use Rattle.session.specs.declared.Settings.{Settings}
+use Rattle.session.specs.Reports.{reportOf}
+use Rattle.session.specs.Terms.{termsOf}
 use Rattle.session.specs.declared.Handed.{Handed}
-use Rattle.session.specs.Sound.{mostSent}
-use Rattle.demands.proofs.SettingsSay.{is-allowed}
+use Rattle.session.specs.Begin.{startOf, beginOf}
+use Rattle.demands.specs.Runs.{sent, after}
+use Rattle.demands.specs.Headline.{Allowed}
+use Rattle.demands.specs.Guided.{Premises, answerFor, Guided}
+use Rattle.demands.specs.Demands.{reportFor, Demand2}
+use Rattle.demands.proofs.PremisesGive.{facts}
+use Rattle.demands.proofs.Guided.{guided-start, guided}
+use Rattle.demands.proofs.ContentIs.{content-is}
 
-module _ {S : Settings} {text : List ℕ} {file : Summary} (P : Premises S text file) where
-  -- `begin` starts where the text's own summary does
-  pub begin-is : beginOf S text ≡ startOf S file
-  unfolding beginOf checkedOf answeredOf
-  begin-is = rw (is-allowed S (P .allowed), taken P, P .summary)
+-- a text that meets the document is accepted
+pub premises : (S : Settings) {text : List ℕ} → Meets text → Allowed (termsOf S) → Premises S text (checkOf text .summary)
+premises S {text} m a = record { accepted = accepted-exactly text .meets-accepted m; summary = refl; allowed = a }
 
-  -- before the first request
-  abbrev pub first : Session
-  first = before text (writeLinesOf text) S file (lasting P)
+-- ---- no verdict of a session is a refusal of the file or of a setting
 
-  -- the bound is the guide's own
-  room : Room text (writeLinesOf text) first (guideFor (termsOf S) file text)
-  unfolding freshOf newPosition mostSent Bounded
-  room rs = omega (arith, bounded (termsOf S) file text (facts P) rs)
+-- 0, or one from 20 on
+abbrev LateNumber : Now → Type 0
+LateNumber course.waiting = Unit
+LateNumber (over number N) = (number ≡ 0) ⊎ (20 ≤ number)
 
-  pub run : (rs : List Reply) → Along text (writeLinesOf text) first (startOf S file) (guideFor (termsOf S) file text) rs
-  unfolding guideFor
-  run rs = start-along text (writeLinesOf text) S file (lasting P) room rs
+reply-late : {q : Request} {r : Reply} {number N : ℕ} → ReplyTable q r number N → 20 ≤ number
+reply-late (NACK e) = omega arith
+reply-late (SHAPE e) = omega arith
+reply-late (PEC e) = omega arith
+
+fit-late : {target : Target} {kept : ℕ} {read : Words} {number N : ℕ} → FitTable target kept read number N → 20 ≤ number
+fit-late (COUNTER e) = omega arith
+fit-late (IDENTITY e) = omega arith
+fit-late (FLAG e) = omega arith
+fit-late (OLD e) = omega arith
+fit-late (KIND kind w e) = omega arith
+fit-late (PLACES e) = omega arith
+
+judged-late : {T : Terms} {c : Content} {xs : List Exchange} {number N : ℕ} → Judged T c xs number N → (number ≡ 0) ⊎ (20 ≤ number)
+judged-late (unfit w number N f) = inr (fit-late (f .applies))
+judged-late (PROGRAM w f e g) = inr (omega arith)
+judged-late (BANKS w g f) = inr (omega arith)
+judged-late (MISMATCH w r before x behind crc e f) = inr (omega arith)
+judged-late (DONE w r) = inl refl
+
+course-late : {T : Terms} {c : Content} {rs : List Reply} (x : Now) {qs : List Request} → Course T c rs x qs → LateNumber x
+course-late _ (waits q o) = tt
+course-late _ (refused q r later o number N f) = inr (reply-late (f .applies))
+course-late _ (judged xs left number N h j) = judged-late j
+
+early : {A : Type 0} (n : ℕ) → 1 ≤ n → n ≤ 14 → (n ≡ 0) ⊎ (20 ≤ n) → A
+early n f g (inl e) = absurd (let y : ⊥ = omega arith in y)
+early n f g (inr e) = absurd (let y : ⊥ = omega arith in y)
+
+-- so its report has no line and no place
+reports : (o : Outcome) → LateNumber (nowOf o) → reportOf (answerFor o) ≡ reportFor (nowOf o)
+unfolding nowOf answerFor reportOf
+reports waiting h = refl
+reports (ended Done) h = refl
+reports (ended Setting) h = early 14 (omega arith) (omega arith) h
+reports (ended (File r)) h = let n = refusal-number r in early (refusalTold r .number) (n .some) (omega (arith, n .few)) h
+reports (ended (Mismatch N)) h = refl
+reports (ended (Halted r)) h = refl
+
+module _ (S : Settings) {text : List ℕ} (m : Meets text) (a : Allowed (termsOf S)) where
+  abbrev T : Terms
+  T = termsOf S
+
+  abbrev file : Summary
+  file = checkOf text .summary
+
+  pub course-of : (rs : List Reply) → CourseExactly T file text rs
+  course-of rs = course-exactly T file text (a .some) (facts (premises S m a) .few) rs
+
+  -- of any run that the guide gives
+  by-guide : (rs : List Reply) {out : List Request} {last : Handed} → Guided T file text rs out last → Demand2 T m rs out last
+  by-guide rs g =
+      let o = verdict (guideFor T file text) rs in
+      let e = course-of rs in
+      record {
+        now = nowOf o;
+        tells = ap reportOf (g .sameAnswer) ∙ reports o (course-late (nowOf o) (e .goes));
+        goes = rw (g .sameRequests) (rw (content-is m) at (e .goes));
+        only = λ x qs c. let k = e .only x qs (rw (content-is m) c) in (k .0, k .1 ∙ sym (g .sameRequests));
+      }
 
   module _ (rs : List Reply) where
     abbrev Holds : Handed → Type 0
-    Holds start = Demand2 (termsOf S) file text rs (sent text start rs) (after text start rs)
+    Holds start = Demand2 T m rs (sent text start rs) (after text start rs)
 
     pub demand2-start : Holds (startOf S file)
-    demand2-start = let a = run rs in record { sameRequests = a .sends; sameAnswer = a .says }
+    demand2-start = by-guide rs (guided-start (premises S m a) rs)
 
     pub demand2 : Holds (beginOf S text)
-    demand2 = rw begin-is demand2-start
+    demand2 = by-guide rs (guided (premises S m a) rs)

@@ -19,6 +19,7 @@ use Rattle.session.specs.declared.Stage.the-variants.{Open, Ended}
 use Rattle.session.specs.declared.Awaited.{Awaited}
 use Rattle.session.specs.Moves.{withStage, putOf, endOf, badOf, overOf}
 use Rattle.session.specs.Sound.{soundOf}
+use Rattle.session.specs.Reports.{reportOf}
 use Rattle.session.specs.Reply.{repliedOf, replyOf}
 use Rattle.demands.specs.Exactly.{zeros, Due, Unfit, Fifteen, before, due, FifteenExactly, VerdictStands}
 use Rattle.demands.proofs.Cases.{next-bad, next-over, over-bad}
@@ -88,12 +89,13 @@ module _ (text : List ℕ) (s : Session) (kind : ℕ) (bs : List ℕ) where
   refused g e (due word n f d u) = sym (when-open text s kind bs g (soundOf s) e refl) ∙ due-refused g word n f d u (soundOf s)
 
   pub fifteen-exactly : FifteenExactly text s kind bs
-  unfolding badOf
+  unfolding badOf reportOf
   fifteen-exactly =
       record {
         only = λ e. by-stage _ refl (λ g o. (g, o, stage-shown g o .only e)) (λ v o. over-bad (sym (still v o .0) ∙ e));
         when = λ g o f. ap (λ (h : Handed). h .answer) (refused g o f);
         leaves = λ e. by-stage _ refl (λ g o. stage-shown g o .leaves e) (λ v o. over-bad (sym (still v o .0) ∙ e));
+        tells = λ e. ap reportOf e;
       }
 
   pub verdict-stands : VerdictStands text s kind bs

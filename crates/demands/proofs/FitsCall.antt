@@ -28,7 +28,7 @@ use Rattle.session.specs.Moves.{withStage, withPosition, withSent, putOf, endOf
 use Rattle.session.specs.Reply.{followOf, repliedOf}
 use Rattle.demands.specs.Runs.{putOut}
 use Rattle.demands.proofs.WhereItStands.{handOf, Lasting, Bounds, At, Sim, running, finished}
-use Rattle.demands.specs.Demands.{answerFor}
+use Rattle.demands.specs.Guided.{answerFor}
 
 -- the request that a plan puts out, none where it is done
 unfoldable pub rootOf : Plan → List Request

@@ -31,7 +31,7 @@ use Rattle.demands.proofs.FitsCall.{rootOf, sizeOf, burnOf, Fits, end-f
 use Rattle.demands.proofs.FitsStep3.{next-line-fits, gate-fits}
 use Rattle.demands.proofs.FitsSteps4to6.{polled-fits, first-restore-fits, crc-fits}
 use Rattle.session.specs.Terms.{termsOf}
-use Rattle.demands.specs.Demands.{answerFor}
+use Rattle.demands.specs.Guided.{answerFor}
 
 -- the plan behind a reply
 unfoldable pub onward : Plan → Reply → Plan

@@ -1,6 +1,6 @@
 -- A device that an accepted file fits; and what such a file says fits four bytes. Assumes nothing.
-use mathlib.Core.Path.{_≡_, refl}
-use mathlib.Core.Logic.{_⊎_, inl, inr}
+use mathlib.Core.Path.{refl}
+use mathlib.Core.Logic.{inr}
 use mathlib.Core.List.{List, []}
 use Prim.Native.Nat.{ℕ, _+_, _-_, _<_, _≤_}
 use native.Mathlib.Omega.{arith}
@@ -15,7 +15,8 @@ use Rattle.summary.specs.declared.Summary.{Summary}
 use Rattle.image.specs.Says.{word}
 use Rattle.image.specs.Meets.{dataIn, numbered, Meets}
 use Rattle.image.proofs.LinesAndBytes.{spells-at}
-use Rattle.guide.specs.Matched.{Fits}
+use Rattle.image.proofs.MeetsPass.{spelled-of}
+use Rattle.guide.specs.Matched.{Wants, legacy, production, Fits}
 use Rattle.guide.specs.declared.Words.{Words}
 use Rattle.guide.specs.Guide.{targetOf}
 
@@ -38,19 +39,17 @@ pub fitting : (file : Summary) (kept : ℕ) → file .configs + kept ≤ 27 → 
 unfolding counterFor
 fitting file kept few =
     let c = counter-is (file .kind) in
-    record { counted = c .1; same = refl; young = omega arith; kind = by (file .kind) refl 0 refl; places = omega arith }
+    record { counted = c .1; same = refl; young = omega arith; kind = by (file .kind); places = omega arith }
   where
-    by : (k : Kind) → file .kind ≡ k → (flag : ℕ) → flag ≡ 0
-        → ((file .kind ≡ Legacy) × (flag ≡ 0) × (counterFor (file .kind) < 28))
-        ⊎ ((file .kind ≡ Production) × ((flag ≡ 0xFFFE0001) ⊎ (counterFor (file .kind) ≡ 28)))
-    by Legacy e flag f = inl (e, f, rw e (omega arith))
-    by Production e flag f = inr (e, inr (rw e))
+    by : (k : Kind) → Wants (counterFor k) 0 k
+    by Legacy = legacy refl (omega arith)
+    by Production = production (inr refl)
 
 -- ---- what an accepted file says fits four bytes
 
 module _ (text : List ℕ) (m : Meets text) where
   byte-lt : (n i : ℕ) → dataIn i (numbered (m .values) n) < 256
-  byte-lt n i = rw (spells-values (spells-at (m .spelled) (n - 1))) at (values-lt digitVal (getD (linesOf text) (n - 1) []) (4 + i))
+  byte-lt n i = rw (spells-values (spells-at (spelled-of m) (n - 1))) at (values-lt digitVal (getD (linesOf text) (n - 1) []) (4 + i))
 
   pub word-lt : (n a b c d : ℕ)
       → let v = numbered (m .values) n in word (dataIn a v) (dataIn b v) (dataIn c v) (dataIn d v) < 4294967296

@@ -3,19 +3,18 @@ use mathlib.Core.Path.{_≡_, refl, sym, ap, _∙_}
 use mathlib.Core.Logic.{⊎-elim}
 use mathlib.Core.Bool.{true}
 use mathlib.Core.List.{List, [], _∷_, _++_, append-assoc, List·Memᴰ, List·Memᴰ·not-nil, Memᴰ·append-left}
-use Prim.Native.Nat.{ℕ, zero, suc, _+_, _-_, _≤_, _<_}
+use Prim.Native.Nat.{ℕ, suc, _+_, _-_, _≤_}
 use native.Mathlib.Omega.{arith}
-use lib.Seq.{getD-drop}
-use lib.ListN.{length, getD, drop, length-drop}
+use lib.ListN.{length, drop, length-drop}
 use Rattle.cuts.specs.Lines.{linesOf}
-use Rattle.line.specs.LineForm.{LineForm}
 use Rattle.promise.proofs.Basics.{split}
 use Rattle.summary.specs.declared.FileAnswer.{FileAnswer}
 use Rattle.summary.specs.declared.FileAnswer.the-variants.{Accepted, Refused}
 use Rattle.image.specs.Check.{checkOf}
 use Rattle.summary.specs.Answers.{answerTold}
-use Rattle.image.specs.Meets.{numbered, Spelled, none, line, Meets}
+use Rattle.image.specs.Meets.{Meets}
 use Rattle.image.proofs.LinesAndBytes.{spelled-length}
+use Rattle.image.proofs.MeetsPass.{spelled-of}
 use Rattle.bus.specs.declared.Request.{Request}
 use Rattle.guide.specs.Plan.{Reply, fileLine, Asked, Plan, requests, bare}
 use Rattle.guide.specs.Guide.{lines, writeLinesOf, guideFor, targetOf}
@@ -23,32 +22,29 @@ use Rattle.guide.specs.Matched.{Matched, askedIn, opening}
 use Rattle.guide.specs.Statements.{burnsIn, beforeBurn, spellings, SpelledOnce, AllInForm}
 use Rattle.guide.proofs.Through.{asked}
 use Rattle.guide.proofs.Every.{behind}
-use Rattle.guide.proofs.GateHolds.{Reached, reached, gate-holds}
+use Rattle.guide.proofs.GateHolds.{Reached, reached, gate-unless}
 use Rattle.guide.proofs.Burning.{burns-behind, before-behind, no-burns}
 use Rattle.guide.specs.declared.Verdict.the-variants.{Setting, File}
 use Rattle.session.specs.declared.Settings.{Settings}
 use Rattle.session.specs.Sound.{allowedOf}
 use Rattle.session.specs.Begin.{answeredOf, checkedOf, beginOf}
 use Rattle.demands.specs.Runs.{sent}
-use Rattle.demands.specs.Demands.{Premises}
+use Rattle.demands.specs.Guided.{Premises}
 use Rattle.demands.specs.Headline.{targetIn, asItStands, allAsTheyStand, burn, MayBurn, Headline}
-use Rattle.demands.proofs.PremisesGive.{meets, says, facts}
-use Rattle.demands.proofs.Demand2.{demand2}
-use Rattle.demands.proofs.Demand3.{bare-append}
+use Rattle.demands.proofs.PremisesGive.{meets, facts}
+use Rattle.demands.proofs.Guided.{guided}
+use Rattle.guide.proofs.CourseIsGuide.{bare-append}
 use Rattle.demands.proofs.SettingsSay.{allowed-is, not-reserved, refused-sends}
-use Rattle.demands.proofs.LinesAsTheyStand.{burn-stands}
+use Rattle.demands.proofs.BurnIsLast.{last-burns}
+use Rattle.demands.proofs.ContentIs.{spelled-drop, formed, target-is}
 use Rattle.demands.proofs.BurnReached.{marked, marked-bare, Reach, reach}
 use Rattle.demands.proofs.BurnSpelled.{spellings-append, burn-spelled, mem-spelled, said-in-form, guide-made}
 use Rattle.session.specs.Terms.{termsOf}
 use Rattle.guide.specs.Terms.{Terms}
-use Rattle.guide.proofs.BurnsHold.{burns-hold}
+use Rattle.guide.proofs.BurnsOnce.{burns-once}
+use Rattle.guide.proofs.FileFacts.{lines-are, some-line}
 use Rattle.guide.proofs.MarksTell.{spelled-once}
 use Rattle.summary.specs.declared.Summary.{Summary}
-
-spelled-drop : (k : ℕ) {ts vs : List (List ℕ)} → Spelled ts vs → Spelled (drop k ts) (drop k vs)
-spelled-drop zero s = s
-spelled-drop (suc k) none = none
-spelled-drop (suc k) (line t v ts vs x s) = spelled-drop k s
 
 module _ {S : Settings} {text : List ℕ} {file : Summary} (P : Premises S text file) (rs : List Reply) where
   abbrev T : Terms
@@ -70,32 +66,28 @@ module _ {S : Settings} {text : List ℕ} {file : Summary} (P : Premises S text 
   vs = m .values
 
   sizes : (n ≡ length vs) × (12 ≤ length vs) × (length (drop 4 vs) ≡ length vs - 4)
-  sizes = (facts P .lines ∙ spelled-length (m .spelled), omega (arith, m .meets .count, m .meets .some), length-drop 4 vs)
+  sizes = (facts P .lines ∙ spelled-length (spelled-of m), omega (arith, m .meets .laid .count, m .meets .laid .some), length-drop 4 vs)
 
   -- the summary asks what the bytes of the lines ask
   same-target : targetOf file ≡ targetIn m
-  same-target = ap (λ (f : Summary). targetOf f) (P .summary) ∙ rw (says P .kind, says P .identity, says P .configs)
+  same-target = ap (λ (f : Summary). targetOf f) (P .summary) ∙ target-is m
 
-  -- write line j, counted from 0, is line 5 + j
-  formed : (j : ℕ) → j < length (drop 4 vs) → LineForm (5 + j) (getD (drop 4 vs) j [])
-  formed j h =
-      let e : 5 + j - 1 ≡ 4 + j = omega arith in
-      rw (getD-drop 4 vs j []) (rw e at (m .meets .form (5 + j) (omega arith) (omega (arith, sizes .1, sizes .2))))
-
-  spells : spellings list ≡ burnsIn n list
+  pub spells : spellings list ≡ burnsIn n list
   unfolding SpelledOnce
   spells = spelled-once T file text (facts P) rs (not-reserved S (P .allowed))
 
   module _ (some : 1 ≤ burnsIn n list) where
     was-matched : Matched T (targetOf file) rs
+    unfolding guideFor
     was-matched =
-        ⊎-elim (λ x. x) (λ e. absurd (let y : ⊥ = omega (arith, no-burns n list e) in y)) (gate-holds T file text (facts P) rs .unless)
+        ⊎-elim (λ x. x) (λ e. absurd (let y : ⊥ = omega (arith, no-burns n list e) in y)) (gate-unless T file (writeLinesOf text) rs)
 
     matched : Matched T (targetIn m) rs
     matched =
         record {
           captured = was-matched .captured;
           read = was-matched .read;
+          left = was-matched .left;
           came = was-matched .came;
           fits = rw same-target at (was-matched .fits);
         }
@@ -103,27 +95,22 @@ module _ {S : Settings} {text : List ℕ} {file : Summary} (P : Premises S text 
     at3 : Reached T file (writeLinesOf text) rs was-matched
     at3 = reached T file (writeLinesOf text) rs was-matched
 
-    found : Reach n rest 5 (drop 4 (linesOf text)) (drop 4 vs) (at3 .last)
+    found : Reach n rest 5 (drop 4 (linesOf text)) (drop 4 vs) (was-matched .left)
     unfolding guideFor writeLinesOf
     found =
-        reach n rest (spelled-drop 4 (m .spelled)) 5 (omega arith) formed (omega (arith, sizes .0, sizes .1, sizes .2))
-        (omega (arith, sizes .1, sizes .2)) (at3 .last)
+        reach n rest (spelled-drop 4 (spelled-of m)) 5 (omega arith) (formed m) (omega (arith, sizes .0, sizes .1, sizes .2))
+        (omega (arith, sizes .1, sizes .2)) (was-matched .left)
         (rw (at3 .list, burns-behind n (at3 .before) _ (at3 .plain)) at some)
 
-    last-burns : asItStands (found .last) ≡ burn
-    last-burns =
-        let e : 4 + (length (drop 4 vs) - 1) ≡ length vs - 1 = omega (arith, sizes .1, sizes .2) in
-        let is : found .last ≡ numbered vs (length vs) = found .last-is ∙ rw (getD-drop 4 vs (length (drop 4 vs) - 1) [], e) in
-        rw is
-        (burn-stands (length vs) (numbered vs (length vs)) (omega (arith, sizes .1))
-        (m .meets .form (length vs) (omega (arith, sizes .1)) (omega arith)) (m .meets .burnLast))
+    last-is-burn : asItStands (found .last) ≡ burn
+    last-is-burn = rw (found .last-is) (last-burns m)
 
     abbrev earlier : List Asked
     earlier = at3 .before ++ marked 5 (found .sofar)
 
     whole : list ≡ earlier ++ (asked (fileLine n) burn ∷ found .behind)
     unfolding guideFor writeLinesOf
-    whole = at3 .list ∙ rw (found .list, last-burns) (sym (append-assoc (at3 .before) _ _))
+    whole = at3 .list ∙ rw (found .list, last-is-burn) (sym (append-assoc (at3 .before) _ _))
 
     in-form : AllInForm earlier rs
     in-form = at3 .form-there _ (found .form)
@@ -132,7 +119,7 @@ module _ {S : Settings} {text : List ℕ} {file : Summary} (P : Premises S text 
     unfolding guideFor writeLinesOf
     one =
         let b : beforeBurn n list ≡ earlier = rw (at3 .list) (before-behind n (at3 .before) _ (at3 .plain) ∙ rw (found .cut)) in
-        burns-hold T file text (facts P) rs .once was-matched (rw b in-form)
+        burns-once T file (writeLinesOf text) rs (lines-are text (facts P)) (some-line text (facts P)) was-matched (rw b in-form)
 
     -- the burn's own spelling is the only one
     alone : (spellings earlier ≡ 0) × (spellings (found .behind) ≡ 0)
@@ -148,7 +135,7 @@ module _ {S : Settings} {text : List ℕ} {file : Summary} (P : Premises S text 
     earlier-bare : bare earlier ≡ asking ++ allAsTheyStand (found .sofar)
     earlier-bare = bare-append (at3 .before) _ ∙ rw (at3 .asked, marked-bare 5 (found .sofar))
 
-    may-burn : MayBurn T text rs (sent text (beginOf S text) rs)
+    pub may-burn : MayBurn T text rs (sent text (beginOf S text) rs)
     unfolding bare matched
     may-burn =
         record {
@@ -158,10 +145,10 @@ module _ {S : Settings} {text : List ℕ} {file : Summary} (P : Premises S text 
           lines = found .sofar;
           last = found .last;
           theFile = found .values;
-          lineN = last-burns;
+          lineN = last-is-burn;
           behind = bare (found .behind);
           order =
-              demand2 P rs .sameRequests ∙ ap bare whole ∙ bare-append earlier _ ∙ rw earlier-bare (append-assoc asking _ _);
+              guided P rs .sameRequests ∙ ap bare whole ∙ bare-append earlier _ ∙ rw earlier-bare (append-assoc asking _ _);
           earlier =
               rw (← earlier-bare)
               (said-in-form earlier rs (λ q x. guide-made T file text rs q (rw whole (Memᴰ·append-left _ x))) in-form);
@@ -171,7 +158,7 @@ module _ {S : Settings} {text : List ℕ} {file : Summary} (P : Premises S text 
 
   pub burn-allowed : Headline T text rs (sent text (beginOf S text) rs)
   unfolding Headline
-  burn-allowed b = may-burn (rw spells at (mem-spelled list (rw (demand2 P rs .sameRequests) at b)))
+  burn-allowed b = may-burn (rw spells at (mem-spelled list (rw (guided P rs .sameRequests) at b)))
 
 -- ---- of all settings and texts: a refused start puts nothing out
 

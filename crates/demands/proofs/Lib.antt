@@ -6,13 +6,16 @@ pub mod FitsSteps4to6
 pub mod FitsReply
 pub mod SessionIsGuide
 pub mod PremisesGive
-pub mod Demand2
-pub mod Demand3
+pub mod Guided
 pub mod LinesAsTheyStand
+pub mod BurnIsLast
+pub mod ContentIs
 pub mod BurnReached
 pub mod BurnSpelled
 pub mod SettingsSay
 pub mod Headline
+pub mod Demand2
+pub mod Demand3
 pub mod RepliesInForm
 pub mod FittingDevice
 pub mod CanEnd
@@ -26,6 +29,6 @@ pub mod CarriesOn
 pub mod BeginsSo
 pub mod FourteenExactly
 pub mod NoReport12
-pub mod AsAsked
+pub mod WroteBack
 pub mod Blind
 pub mod InBytes

@@ -25,7 +25,7 @@ use Rattle.guide.proofs.FileFacts.{lines-are, some-line, FileFacts}
 use Rattle.guide.proofs.OfText.{meets-facts}
 use Rattle.session.specs.declared.Settings.{Settings}
 use Rattle.session.specs.Sound.{all, idsSound, fileTests, fileSound}
-use Rattle.demands.specs.Demands.{Premises}
+use Rattle.demands.specs.Guided.{Premises}
 use Rattle.demands.proofs.WhereItStands.{Lasting}
 use Rattle.demands.proofs.SettingsSay.{is-allowed}
 use Rattle.image.proofs.SummarySays.{summary-says}

@@ -1,6 +1,6 @@
 -- For each exchange there is a reply in form that tells its word: a write's is kind 1 and no bytes, a read's the word's four bytes,
 -- lowest first, and their PEC. Assumes nothing.
-use mathlib.Core.Path.{_≡_, ap, _∙_}
+use mathlib.Core.Path.{_≡_}
 use mathlib.Core.Bool.{Bool, true, false}
 use mathlib.Core.List.{List, [], _∷_, _++_, List·Memᴰ, List·Memᴰ·head, List·Memᴰ·tail, List·Memᴰ·not-nil}
 use Prim.Native.Nat.{ℕ, zero, suc, _+_, _%_, _/_, _<_}
@@ -9,24 +9,20 @@ use lib.ListN.{getD}
 use Rattle.pec.proofs.Laws.{pec-lt}
 use Rattle.line.specs.declared.Line.{Line}
 use Rattle.summary.specs.declared.Summary.{Summary}
-use Rattle.bus.specs.declared.ReplyForm.the-variants.{Good}
 use Rattle.bus.specs.Bus.{framed, writeOf}
 use Rattle.guide.specs.Requests.{readData, readBlock, device}
-use Rattle.bus.specs.ReplyForm.{formOf}
-use Rattle.bus.specs.InForm.{write, register, block, registerPec, blockPec, wrote as wroteBytes, registerRead, blockRead, Says, Means}
-use Rattle.bus.proofs.FormMeans.{form-means}
+use Rattle.bus.specs.InForm.{registerPec, blockPec, spelled, InForm, wrote as wroteBytes, registerRead, blockRead}
 use Rattle.guide.specs.Plan.{Reply}
 use Rattle.guide.specs.Guide.{crcIn}
 use Rattle.guide.specs.Requests.{lineRequest}
 use Rattle.guide.specs.Matched.{Exchange, wrote, got, Heard, none, more, opening}
-use Rattle.guide.specs.Statements.{heard3, heard6}
+use Rattle.guide.specs.Course.{heard3, heard6, lineRequests, configsIn}
 use Rattle.demands.specs.Demands.{OfBytes}
 use Rattle.guide.specs.Terms.{Terms}
 use Rattle.guide.specs.declared.Words.{Words}
-use Rattle.demands.specs.Runs.{sent}
 
 abbrev Can : Exchange → Type 0
-Can x = (r : Reply) × (formOf (x .request) (r .kind) (r .bytes) ≡ Good (x .word)) × OfBytes r
+Can x = (r : Reply) × InForm (x .request) (r .kind) (r .bytes) (x .word) × OfBytes r
 
 abbrev done : List ℕ → Reply
 done bs = record { kind = 1; bytes = bs }
@@ -55,11 +51,11 @@ pub able-both : {xs ys : List Exchange} → Able xs → Able ys → Able (xs ++ 
 able-both end b = b
 able-both (and c a) b = and c (able-both a b)
 
-pub able-answered : {xs : List Exchange} → Able xs → (rs : List Reply) × Heard xs rs × ((r : Reply) → List·Memᴰ r rs → OfBytes r)
+pub able-answered : {xs : List Exchange} → Able xs → (rs : List Reply) × Heard xs rs [] × ((r : Reply) → List·Memᴰ r rs → OfBytes r)
 able-answered end = ([], none [], λ r m. absurd (List·Memᴰ·not-nil m))
 able-answered (and {x} {xs} c a) =
     let b = able-answered a in
-    (c .0 ∷ b .0, more x xs (c .0) (b .0) (c .1) (b .1), all (c .2) (b .2))
+    (c .0 ∷ b .0, more x xs (c .0) (b .0) [] (c .1) (b .1), all (c .2) (b .2))
   where
     all : {r : Reply} {rs : List Reply} → OfBytes r → ((q : Reply) → List·Memᴰ q rs → OfBytes q) → (q : Reply) → List·Memᴰ q (r ∷ rs) → OfBytes q
     all h f q (List·Memᴰ·head e) = rw e h
@@ -68,8 +64,7 @@ able-answered (and {x} {xs} c a) =
 -- ---- each kind of exchange
 
 pub can-write : (sent : List ℕ) (p : ℕ) → Can (wrote (framed sent p))
-unfolding Means Says
-can-write sent p = (done [], form-means (write sent p) 1 [] (Good 0) .1 (wroteBytes sent p), of-bytes empty)
+can-write sent p = (done [], wroteBytes sent p, of-bytes empty)
 
 module _ (w : ℕ) (h : w < 4294967296) where
   abbrev a : ℕ
@@ -88,19 +83,20 @@ module _ (w : ℕ) (h : w < 4294967296) where
   word-bytes : (p : ℕ) → p < 256 → Bytes (a ∷ b ∷ c ∷ d ∷ p ∷ [])
   word-bytes p h = byte a (omega arith) (byte b (omega arith) (byte c (omega arith) (byte d (omega arith) (byte p h empty))))
 
+  spelled-is : spelled a b c d ≡ w
+  spelled-is = omega arith
+
   pub can-read : Can (got readData w)
-  unfolding Means Says
   can-read = (
     done (a ∷ b ∷ c ∷ d ∷ registerPec device a b c d ∷ []),
-    form-means (register device) 1 _ (Good _) .1 (registerRead device a b c d) ∙ ap Good (omega arith),
+    rw spelled-is at (registerRead device a b c d),
     of-bytes (word-bytes _ (pec-lt _)),
   )
 
   pub can-block : (command : ℕ) → Can (got (readBlock command) w)
-  unfolding Means Says
   can-block command = (
     done (4 ∷ a ∷ b ∷ c ∷ d ∷ blockPec device command a b c d ∷ []),
-    form-means (block device command) 1 _ (Good _) .1 (blockRead device command a b c d) ∙ ap Good (omega arith),
+    rw spelled-is at (blockRead device command a b c d),
     of-bytes (byte 4 (omega arith) (word-bytes _ (pec-lt _))),
   )
 
@@ -121,13 +117,13 @@ able-opening wanted read e f g h = by wanted
     by true = and (can-write _ _) (and (can-read 0 (omega arith)) (and (can-write _ _) (and (can-write _ _) step2)))
     by false = step2
 
-pub able-lines : (ls : List Line) → Able (heard3 ls)
-unfolding heard3 lineRequest writeOf
+pub able-lines : (ls : List Line) → Able (heard3 (lineRequests ls))
+unfolding heard3 lineRequests lineRequest writeOf
 able-lines [] = end
 able-lines (l ∷ ls) = and (can-write _ _) (able-lines ls)
 
-pub able-crcs : (T : Terms) (file : Summary) (left N : ℕ) → ((i : ℕ) → i < N + left → crcIn file i < 4294967296) → Able (heard6 T file left N)
-unfolding heard6 writeOf
+pub able-crcs : (T : Terms) (file : Summary) (left N : ℕ) → ((i : ℕ) → i < N + left → crcIn file i < 4294967296) → Able (heard6 T (configsIn file left N))
+unfolding heard6 configsIn writeOf
 able-crcs T file zero N f = end
 able-crcs T file (suc left) N f =
     and (can-write _ _) (and (can-write _ _) (and (can-read (crcIn file N) (f N (omega arith)))

@@ -29,7 +29,7 @@ use Rattle.demands.proofs.WhereItStands.{Lasting, capture-at, counter-a
 use Rattle.demands.proofs.FitsCall.{rootOf, sizeOf, burnOf, Fits, other-fits, cond-fits}
 use Rattle.demands.proofs.FitsReply.{onward, reply-fits}
 use Rattle.session.specs.Terms.{termsOf}
-use Rattle.demands.specs.Demands.{answerFor}
+use Rattle.demands.specs.Guided.{answerFor}
 
 -- one request more, the burn or not
 some-burn : (b : Bool) (x : ℕ) → (b || leb 1 x) ≡ leb 1 (cond b (suc x) x)

@@ -6,13 +6,13 @@ use mathlib.Core.List.{List, [], _∷_, List·Memᴰ}
 use mathlib.Core.Bool.{true, false}
 use lib.ListN.{getD}
 use Rattle.counts.specs.declared.LineNumber.{LineNumber}
-use Rattle.counts.specs.Counts.{lineNumber, configId, lineCount}
+use Rattle.counts.specs.Counts.{lineNumber, linePlace, configNumber, configId, lineCount}
 use Rattle.line.specs.declared.Line.{Line}
 use Rattle.line.specs.declared.NextLine.the-variants.{Took}
 use Rattle.line.specs.Reading.{nextLine}
 use Rattle.summary.specs.declared.Told.{Told}
-use Rattle.image.specs.Check.{checkOf}
-use Rattle.summary.specs.Answers.{answerTold, plain}
+use Rattle.image.specs.FileTable.{Given}
+use Rattle.summary.specs.Answers.{told, plain}
 use Rattle.summary.specs.Burn.{isBurn}
 use Rattle.bus.specs.declared.Request.{Request}
 use Rattle.bus.specs.Bus.{codes}
@@ -107,6 +107,8 @@ module _ (text : List ℕ) (s : Session) (kind : ℕ) (bs : List ℕ) where
     pub when : (g : Awaited) → s .stage ≡ Open g → Fifteen g → handed .answer ≡ BadState
     -- 15 leaves the state as given, and comes with a request of zeros
     pub leaves : handed .answer ≡ BadState → (handed .session ≡ s) × (handed .request ≡ zeros)
+    -- it has no line, no place and no N
+    pub tells : handed .answer ≡ BadState → reportOf (handed .answer) ≡ Is (plain 15)
 
   -- a verdict ends the session and comes with a request of zeros; after it, the same verdict, the same state and a request of zeros
   pub record VerdictStands : Type 0 where
@@ -133,10 +135,11 @@ module _ (S : Settings) (text : List ℕ) where
     pub only : (t : Told) → reportOf (beginOf S text .answer) ≡ Is t → t .number ≡ 14 → SettingOut S
     pub when : SettingOut S → reportOf (beginOf S text .answer) ≡ Is (plain 14)
 
-  -- where the settings are in their ranges and the file is refused, the report has the file's own number, line and place
-  unfoldable pub ReportsFile : Type 0
-  ReportsFile =
-      (SettingOut S → ⊥) → (answerTold (checkOf text .answer) .number ≡ 0 → ⊥) → reportOf (beginOf S text .answer) ≡ Is (answerTold (checkOf text .answer))
+  -- where the settings are in their ranges: a refused file's own number, line and place are reported, exactly where they are its
+  pub record FileExactly (inside : SettingOut S → ⊥) : Type 0 where
+    pub only : (t : Told) → reportOf (beginOf S text .answer) ≡ Is t → Given text (t .number) (t .line .0) (t .place .0)
+    pub when : (number line place : ℕ) → 1 ≤ number → Given text number line place
+        → reportOf (beginOf S text .answer) ≡ Is (told number (lineNumber line) (linePlace place) (configNumber 0))
 
   unfoldable pub BeginsSo : Type 0
   BeginsSo = Begun (beginOf S text)

@@ -44,9 +44,9 @@ abbrev pub targetIn : {text : List ℕ} → Meets text → Target
 targetIn m =
     let one = numbered (m .values) 1 in
     record {
-      kind = m .meets .kind;
+      kind = m .meets .laid .kind;
       identity = word (dataIn 0 one) (dataIn 1 one) (dataIn 2 one) (dataIn 3 one);
-      configs = m .meets .configs;
+      configs = m .meets .laid .configs;
     }
 
 -- by the terms, the text, the replies, and the requests put out

@@ -1,5 +1,6 @@
 pub mod Runs
 pub mod Headline
+pub mod Guided
 pub mod Demands
 pub mod Asked
 pub mod Exactly

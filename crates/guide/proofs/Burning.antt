@@ -16,7 +16,7 @@ use Rattle.bus.specs.ReplyForm.{formOf}
 use Rattle.guide.specs.Plan.{Reply, Mark, other, fileLine, Asked, Plan, requests}
 use Rattle.guide.specs.Requests.{lineRequest}
 use Rattle.guide.specs.Guide.{hear, put, lines}
-use Rattle.guide.specs.Statements.{isLine, linesIn, isBurnMark, burnsIn, beforeBurn, AllInForm, none, more}
+use Rattle.guide.specs.Statements.{isLine, linesIn, isBurnMark, burnsIn, beforeBurn, AllInForm, more}
 use Rattle.guide.proofs.Every.{Every, asks, ends, behind, behind-every}
 use Rattle.guide.specs.Terms.{Terms}
 
@@ -79,21 +79,6 @@ module _ (n : ℕ) (m : Mark) (q : Request) (p : Plan) (unlike : isBurnMark n m 
       let g = form-on (rw unlike at f) in
       rw (unlike, g .1) (go rs (rw (g .1) at (g .2)))
 
-  never-on : (rs : List Reply)
-      → ((last : List Reply) → (AllInForm (beforeBurn n (requests p last)) last → ⊥) → burnsIn n (requests p last) ≡ 0)
-      → (AllInForm (beforeBurn n (requests (put m q (λ _. p)) rs)) rs → ⊥) → burnsIn n (requests (put m q (λ _. p)) rs) ≡ 0
-  unfolding requests burnsIn beforeBurn hear
-  never-on [] go f = rw unlike
-  never-on (r ∷ rs) go f = at-form (formOf q (r .kind) (r .bytes)) refl
-    where
-      at-form : (h : ReplyForm) → formOf q (r .kind) (r .bytes) ≡ h → burnsIn n (requests (put m q (λ _. p)) (r ∷ rs)) ≡ 0
-      at-form Unanswered e = rw (unlike, e)
-      at-form Misshapen e = rw (unlike, e)
-      at-form Miscoded e = rw (unlike, e)
-      at-form (Good w) e =
-          let heard : List Asked = requests (hear (formOf q (r .kind) (r .bytes)) (λ _. p)) rs in
-          rw (unlike, e) (go rs (λ g. f (rw unlike (more _ (beforeBurn n heard) r rs w e (rw e g)))))
-
 -- ---- step 3, from line i on, before a rest without write lines
 
 module _ (n : ℕ) (rest : Plan) (plain : (rs : List Reply) → burnsIn n (requests rest rs) ≡ 0) where
@@ -116,13 +101,3 @@ module _ (n : ℕ) (rest : Plan) (plain : (rs : List Reply) → burnsIn n (reque
   lines-once i (l ∷ l2 ∷ ls) rs h e f =
       once-on n (fileLine i) (lineRequest l) (lines (i + 1) (l2 ∷ ls) rest) (ne-eqb i n (omega arith)) rs
       (λ last g. lines-once (i + 1) (l2 ∷ ls) last (omega arith) (omega arith) g) f
-
-  pub lines-never : (i : ℕ) (ls : List Line) (rs : List Reply) → 1 ≤ length ls → i + length ls ≡ n + 1 → (AllInForm (beforeBurn n (out i ls rs)) rs → ⊥)
-      → burnsIn n (out i ls rs) ≡ 0
-  unfolding lines requests burnsIn beforeBurn isBurnMark hear
-  lines-never i [] rs h e f = absurd (let y : ⊥ = omega arith in y)
-  lines-never i (l ∷ []) [] h e f = absurd (f (rw (eq-eqb i n (omega arith)) (none [])))
-  lines-never i (l ∷ []) (r ∷ rs) h e f = absurd (f (rw (eq-eqb i n (omega arith)) (none (r ∷ rs))))
-  lines-never i (l ∷ l2 ∷ ls) rs h e f =
-      never-on n (fileLine i) (lineRequest l) (lines (i + 1) (l2 ∷ ls) rest) (ne-eqb i n (omega arith)) rs
-      (λ last g. lines-never (i + 1) (l2 ∷ ls) last (omega arith) (omega arith) g) f

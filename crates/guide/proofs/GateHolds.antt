@@ -1,23 +1,23 @@
--- The gate: no write line unless identity, revision, kind and places matched, and the first is next where they did. Assumes nothing.
+-- The gate in the guide's list, by the marks of its requests: no write line unless identity, revision, kind and places matched, and the
+-- first is next where they did. Assumes nothing.
 use mathlib.Core.Path.{_≡_, refl, ap, _∙_}
 use mathlib.Core.Logic.{_⊎_, inr, ⊎-swap}
 use mathlib.Core.List.{List, [], _∷_, _++_}
-use Prim.Native.Nat.{ℕ, _≤_}
+use Prim.Native.Nat.{_≤_}
 use native.Mathlib.Omega.{arith}
 use lib.ListN.{length}
 use Rattle.line.specs.declared.Line.{Line}
 use Rattle.summary.specs.declared.Summary.{Summary}
 use Rattle.guide.specs.declared.Fit.{Fit}
 use Rattle.guide.specs.Plan.{Reply, other, Asked, Plan, requests, bare}
-use Rattle.guide.specs.Guide.{gate, lines, guide, writeLinesOf, guideFor, targetOf}
+use Rattle.guide.specs.Guide.{gate, lines, guide, targetOf}
 use Rattle.guide.specs.Matched.{opening, Matched, askedIn}
-use Rattle.guide.specs.Statements.{isLine, linesIn, lineAsked, AllInForm, Gate}
+use Rattle.guide.specs.Statements.{isLine, linesIn, lineAsked, AllInForm}
 use Rattle.guide.proofs.JudgedExactly.{judged-exactly}
-use Rattle.guide.proofs.Through.{through, asksOf, asks-are, leads-requests, form-behind, form-before}
+use Rattle.guide.proofs.Through.{asksOf, asks-are, leads-requests, form-behind, form-before}
 use Rattle.guide.proofs.Ways.{Keeps}
 use Rattle.guide.proofs.Opening.{opening-way, opens}
 use Rattle.guide.proofs.Every.{behind}
-use Rattle.guide.proofs.FileFacts.{FileFacts, some-line}
 use Rattle.guide.specs.Terms.{Terms}
 
 abbrev Quiet : Plan → List Reply → Type 0
@@ -41,29 +41,26 @@ module _ (T : Terms) (file : Summary) (ls : List Line) (rs : List Reply) where
   -- where they matched, step 3 begins behind the opening
   pub record Reached (m : Matched T (targetOf file) rs) : Type 0 where
     pub before : List Asked
-    pub last : List Reply
-    pub list : out ≡ before ++ requests gated last
+    pub list : out ≡ before ++ requests gated (m .left)
     pub asked : bare before ≡ askedIn (opening (T .wanted) (m .captured) (m .read))
     pub plain : linesIn before ≡ []
-    pub form-here : (qs : List Asked) → AllInForm (before ++ qs) rs → AllInForm qs last
-    pub form-there : (qs : List Asked) → AllInForm qs last → AllInForm (before ++ qs) rs
+    pub form-here : (qs : List Asked) → AllInForm (before ++ qs) rs → AllInForm qs (m .left)
+    pub form-there : (qs : List Asked) → AllInForm qs (m .left) → AllInForm (before ++ qs) rs
 
   pub reached : (m : Matched T (targetOf file) rs) → Reached m
   unfolding guide gate
   reached m =
       let o = opens T file gated (T .wanted) (m .captured) (m .read) in
-      let s = through _ rs (m .came) in
       record {
         before = asksOf (o .leads);
-        last = s .0;
         list =
-            leads-requests (o .leads) (s .1)
-            ∙ ap (λ (x : Fit). asksOf (o .leads) ++ requests (gate x gated) (s .0))
+            leads-requests (o .leads) (m .came)
+            ∙ ap (λ (x : Fit). asksOf (o .leads) ++ requests (gate x gated) (m .left))
             (judged-exactly (targetOf file) (T .kept) (m .read) .passes (m .fits));
         asked = asks-are (o .leads);
         plain = o .plain;
-        form-here = λ qs f. form-behind (o .leads) (s .1) f;
-        form-there = λ qs f. form-before (o .leads) (s .1) f;
+        form-here = λ qs f. form-behind (o .leads) (m .came) f;
+        form-there = λ qs f. form-before (o .leads) (m .came) f;
       }
 
   first-line : (some : List Line) (last : List Reply) → 1 ≤ length some
@@ -78,10 +75,5 @@ module _ (T : Terms) (file : Summary) (ls : List Line) (rs : List Reply) where
       × (ls ≡ l ∷ more) × (out ≡ before ++ (lineAsked 5 l ∷ rest)) × (bare before ≡ askedIn (opening (T .wanted) (m .captured) (m .read)))
   gate-next h m =
       let x = reached m in
-      let y = first-line ls (x .last) h in
+      let y = first-line ls (m .left) h in
       (x .before, y .0, y .1, y .2, y .3, x .list ∙ ap (λ (l : List Asked). x .before ++ l) (y .4), x .asked)
-
-pub gate-holds : (T : Terms) (file : Summary) (text : List ℕ) → FileFacts file text → (rs : List Reply) → Gate T file text rs
-unfolding guideFor
-gate-holds T file text facts rs =
-    record { unless = gate-unless T file (writeLinesOf text) rs; next = gate-next T file (writeLinesOf text) rs (some-line text facts) }

@@ -1,8 +1,8 @@
 -- The judgement of step 2 passes exactly where the values match, for all values. Assumes nothing.
 use mathlib.Core.Path.{_≡_, refl, ap}
-use mathlib.Core.Logic.{_⊎_, inl, inr}
+use mathlib.Core.Logic.{inl, inr}
 use mathlib.Core.Bool.{true, false, false≢true}
-use Prim.Native.Nat.{ℕ, _+_, _/_, _≤_, _<_}
+use Prim.Native.Nat.{ℕ, _+_, _/_, _≤_}
 use native.Mathlib.Omega.{arith}
 use lib.Dec.{eqb, ltb}
 use borrow.Author.Tests.{ltb-true, ltb-false, lt-ltb, le-ltb, eqb-true, eq-eqb, ne-eqb}
@@ -15,37 +15,34 @@ use Rattle.guide.specs.declared.Reason.{Reason}
 use Rattle.guide.specs.declared.Reason.the-variants.{Counter, Identity, Flag, Old, OtherKind, Places}
 use Rattle.guide.specs.declared.Fit.the-variants.{Matched, Fails}
 use Rattle.guide.specs.Judged.{kindWanted, sameKind, fitKind, fitOf}
-use Rattle.guide.specs.Matched.{Fits}
+use Rattle.guide.specs.Matched.{Wants, legacy, production, Fits}
 use Rattle.guide.specs.Statements.{JudgedExactly}
 use Rattle.guide.specs.declared.Words.{Words}
 use Rattle.guide.specs.declared.Target.{Target}
 
--- the kind that counter and flag want, as a relation
-abbrev Wants : Kind → ℕ → ℕ → Type 0
-Wants kind counter flag =
-    ((kind ≡ Legacy) × (flag ≡ 0) × (counter < 28)) ⊎ ((kind ≡ Production) × ((flag ≡ 0xFFFE0001) ⊎ (counter ≡ 28)))
+-- ---- the kind that counter and flag want
 
-wants-is : {kind : Kind} (counter flag : ℕ) → Wants kind counter flag → kindWanted counter flag ≡ Is kind
+pub wants-is : {kind : Kind} {counter flag : ℕ} → Wants counter flag kind → kindWanted counter flag ≡ Is kind
 unfolding kindWanted
-wants-is counter flag (inl (e, f, h)) = simp (e, f, lt-ltb counter 28 h)
-wants-is counter flag (inr (e, inl f)) = rw (e, f)
-wants-is counter flag (inr (e, inr f)) =
-    split (eqb flag 0) (λ g. simp (e, f, g, ne-eqb flag 0xFFFE0001 (λ x. omega (arith, eqb-true flag 0 g))))
-    (λ g. split (eqb flag 0xFFFE0001) (λ h. rw (e, f, g, h)) (λ h. rw (e, f, g, h)))
+wants-is {counter = counter} (legacy e h) = simp (e, lt-ltb counter 28 h)
+wants-is (production (inl f)) = rw f
+wants-is {flag = flag} (production (inr f)) =
+    split (eqb flag 0) (λ g. simp (f, g, ne-eqb flag 0xFFFE0001 (λ x. omega (arith, eqb-true flag 0 g))))
+    (λ g. split (eqb flag 0xFFFE0001) (λ h. rw (f, g, h)) (λ h. rw (f, g, h)))
 
 none-wanted : {A : Type 0} (kind : Kind) → Unknown ≡ Is kind → A
 none-wanted kind e = let z : _≡_ {A = ℕ} 0 1 = cc in absurd (let y : ⊥ = omega arith in y)
 
-is-wants : (kind : Kind) (counter flag : ℕ) → kindWanted counter flag ≡ Is kind → Wants kind counter flag
+pub is-wants : (kind : Kind) (counter flag : ℕ) → kindWanted counter flag ≡ Is kind → Wants counter flag kind
 unfolding kindWanted
 is-wants kind counter flag e =
     split (eqb flag 0)
     (λ g. let other : eqb flag 0xFFFE0001 ≡ false = ne-eqb flag 0xFFFE0001 (λ x. omega (arith, eqb-true flag 0 g)) in
-    split (ltb counter 28) (λ h. inl (cc (simp (g, h) at e), eqb-true flag 0 g, ltb-true counter 28 h))
-    (λ h. split (eqb counter 28) (λ j. inr (cc (simp (g, h, other, j) at e), inr (eqb-true counter 28 j)))
+    split (ltb counter 28) (λ h. let k : kind ≡ Legacy = cc (simp (g, h) at e) in rw k (legacy (eqb-true flag 0 g) (ltb-true counter 28 h)))
+    (λ h. split (eqb counter 28) (λ j. let k : kind ≡ Production = cc (simp (g, h, other, j) at e) in rw k (production (inr (eqb-true counter 28 j))))
     (λ j. none-wanted kind (simp (g, h, other, j) at e))))
-    (λ g. split (eqb flag 0xFFFE0001) (λ h. inr (cc (simp (g, h) at e), inl (eqb-true flag 0xFFFE0001 h)))
-    (λ h. split (eqb counter 28) (λ j. inr (cc (simp (g, h, j) at e), inr (eqb-true counter 28 j)))
+    (λ g. split (eqb flag 0xFFFE0001) (λ h. let k : kind ≡ Production = cc (simp (g, h) at e) in rw k (production (inl (eqb-true flag 0xFFFE0001 h))))
+    (λ h. split (eqb counter 28) (λ j. let k : kind ≡ Production = cc (simp (g, h, j) at e) in rw k (production (inr (eqb-true counter 28 j))))
     (λ j. none-wanted kind (simp (g, h, j) at e))))
 
 -- ---- the judgement
@@ -53,12 +50,12 @@ is-wants kind counter flag e =
 fails : {A : Type 0} (r : Reason) → Fails r ≡ Matched → A
 fails v e = let z : _≡_ {A = ℕ} 0 1 = cc in absurd (let y : ⊥ = omega arith in y)
 
-same-kind : (kind : Kind) → sameKind kind kind ≡ true
+pub same-kind : (kind : Kind) → sameKind kind kind ≡ true
 unfolding sameKind
 same-kind Legacy = refl
 same-kind Production = refl
 
-kind-same : (kind wanted : Kind) → sameKind kind wanted ≡ true → wanted ≡ kind
+pub kind-same : (kind wanted : Kind) → sameKind kind wanted ≡ true → wanted ≡ kind
 unfolding sameKind
 kind-same Legacy Legacy e = refl
 kind-same Legacy Production e = absurd (false≢true e)
@@ -72,7 +69,7 @@ module _ (target : Target) (kept : ℕ) (read : Words) where
       simp (
         le-ltb 28 (read .counter) (f .counted),
         eq-eqb (read .identity) (target .identity) (f .same),
-        wants-is (read .counter) (read .flag) (f .kind),
+        wants-is (f .kind),
         le-ltb (read .revision / 16777216) 6 (f .young),
         same-kind (target .kind),
         le-ltb (read .counter) (target .configs + kept) (f .places),

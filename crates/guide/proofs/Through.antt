@@ -1,12 +1,11 @@
--- Replies that answer some exchanges, with the replies behind them; and a path through a plan along such exchanges: what it asks,
--- where it arrives, and what the rest then gives. Assumes nothing.
+-- Replies that answer some exchanges, one part behind the other; and a path through a plan along such exchanges: what it asks, where it
+-- arrives, and what the rest then gives. Assumes nothing.
 use mathlib.Core.Path.{_≡_, refl, ap, _∙_}
-use mathlib.Core.List.{List, [], _∷_, _++_, append-nil}
+use mathlib.Core.List.{List, [], _∷_, _++_}
 use Prim.Native.Nat.{ℕ}
 use Rattle.bus.specs.declared.Request.{Request}
 use Rattle.bus.specs.declared.ReplyForm.{ReplyForm}
-use Rattle.bus.specs.declared.ReplyForm.the-variants.{Good}
-use Rattle.bus.specs.ReplyForm.{formOf}
+use Rattle.bus.proofs.FormMeans.{good-is}
 use Rattle.guide.specs.Plan.{Reply, Mark, Asked, Plan, requests, verdict, bare}
 use Rattle.guide.specs.Guide.{hear, put}
 use Rattle.guide.specs.Matched.{Exchange, got, Heard, none, more, askedIn}
@@ -15,34 +14,14 @@ use Rattle.guide.specs.Statements as said
 
 -- ---- replies
 
--- the first reply answers this request with this word
-pub data Came (q : Request) (w : ℕ) : List Reply → List Reply → Type 0 where
-  came : (r : Reply) (rest : List Reply) → formOf q (r .kind) (r .bytes) ≡ Good w → Came q w (r ∷ rest) rest
+pub heard-both : {xs ys : List Exchange} {rs mid left : List Reply} → Heard xs rs mid → Heard ys mid left → Heard (xs ++ ys) rs left
+heard-both (none _) h = h
+heard-both (more x xs r rs left i g) h = more x _ r rs _ i (heard-both g h)
 
-pub data Through : List Exchange → List Reply → List Reply → Type 0 where
-  here : {rs : List Reply} → Through [] rs rs
-  then : {x : Exchange} {xs : List Exchange} {rs rest last : List Reply} → Came (x .request) (x .word) rs rest → Through xs rest last
-      → Through (x ∷ xs) rs last
-
-pub through-both : {xs ys : List Exchange} {rs mid last : List Reply} → Through xs rs mid → Through ys mid last → Through (xs ++ ys) rs last
-through-both here u = u
-through-both (then c t) u = then c (through-both t u)
-
-pub join : {xs ys : List Exchange} {rs last : List Reply} → Through xs rs last → Heard ys last → Heard (xs ++ ys) rs
-join here a = a
-join (then (came r rest e) t) a = more _ _ r rest e (join t a)
-
-pub split-answered : (xs : List Exchange) {ys : List Exchange} {rs : List Reply} → Heard (xs ++ ys) rs
-    → (last : List Reply) × Through xs rs last × Heard ys last
-split-answered [] a = (_, here, a)
-split-answered (x ∷ xs) (more _ _ r rs e a) = let b = split-answered xs a in (b .0, then (came r rs e) (b .1), b .2)
-
--- with nothing behind them
-pub answered : {xs : List Exchange} {rs last : List Reply} → Through xs rs last → Heard xs rs
-answered t = rw append-nil at (join t (none _))
-
-pub through : (xs : List Exchange) (rs : List Reply) → Heard xs rs → (last : List Reply) × Through xs rs last
-through xs rs a = let b = split-answered xs {ys = []} {rs = rs} (rw append-nil a) in (b .0, b .1)
+pub heard-split : (xs : List Exchange) {ys : List Exchange} {rs left : List Reply} → Heard (xs ++ ys) rs left
+    → (mid : List Reply) × Heard xs rs mid × Heard ys mid left
+heard-split [] h = (_, none _, h)
+heard-split (x ∷ xs) (more _ _ r rs left i h) = let b = heard-split xs h in (b .0, more x xs r rs (b .0) i (b .1), b .2)
 
 -- ---- paths
 
@@ -68,26 +47,26 @@ pub both : {p p′ p″ : Plan} {xs ys : List Exchange} → Leads p xs p′ → 
 both arrived k = k
 both (on next l) k = on next (both l k)
 
-module _ {p′ : Plan} {last : List Reply} where
-  pub leads-verdict : {p : Plan} {xs : List Exchange} {rs : List Reply} → Leads p xs p′ → Through xs rs last → verdict p rs ≡ verdict p′ last
+module _ {p′ : Plan} {left : List Reply} where
+  pub leads-verdict : {p : Plan} {xs : List Exchange} {rs : List Reply} → Leads p xs p′ → Heard xs rs left → verdict p rs ≡ verdict p′ left
   unfolding verdict hear
-  leads-verdict arrived here = refl
-  leads-verdict (on next l) (then (came r rest e) t) = ap (λ (f : ReplyForm). verdict (hear f next) rest) e ∙ leads-verdict l t
+  leads-verdict arrived (none _) = refl
+  leads-verdict (on next l) (more _ _ r rest _ i h) = ap (λ (f : ReplyForm). verdict (hear f next) rest) (good-is i) ∙ leads-verdict l h
 
-  pub leads-requests : {p : Plan} {xs : List Exchange} {rs : List Reply} (l : Leads p xs p′) → Through xs rs last
-      → requests p rs ≡ asksOf l ++ requests p′ last
+  pub leads-requests : {p : Plan} {xs : List Exchange} {rs : List Reply} (l : Leads p xs p′) → Heard xs rs left
+      → requests p rs ≡ asksOf l ++ requests p′ left
   unfolding requests hear asksOf
-  leads-requests arrived here = refl
-  leads-requests (on {m} {q} next l) (then (came r rest e) t) = rw e (ap (λ (qs : List Asked). asked m q ∷ qs) (leads-requests l t))
+  leads-requests arrived (none _) = refl
+  leads-requests (on {m} {q} next l) (more _ _ r rest _ i h) = rw (good-is i) (ap (λ (qs : List Asked). asked m q ∷ qs) (leads-requests l h))
 
-  pub form-behind : {p : Plan} {xs : List Exchange} {rs : List Reply} {qs : List Asked} (l : Leads p xs p′) → Through xs rs last
-      → AllInForm (asksOf l ++ qs) rs → AllInForm qs last
+  pub form-behind : {p : Plan} {xs : List Exchange} {rs : List Reply} {qs : List Asked} (l : Leads p xs p′) → Heard xs rs left
+      → AllInForm (asksOf l ++ qs) rs → AllInForm qs left
   unfolding asksOf
-  form-behind arrived here f = f
-  form-behind (on next l) (then (came r rest e) t) (said.more _ _ _ _ _ _ f) = form-behind l t f
+  form-behind arrived (none _) f = f
+  form-behind (on next l) (more _ _ r rest _ i h) (said.more _ _ _ _ _ _ f) = form-behind l h f
 
-  pub form-before : {p : Plan} {xs : List Exchange} {rs : List Reply} {qs : List Asked} (l : Leads p xs p′) → Through xs rs last → AllInForm qs last
+  pub form-before : {p : Plan} {xs : List Exchange} {rs : List Reply} {qs : List Asked} (l : Leads p xs p′) → Heard xs rs left → AllInForm qs left
       → AllInForm (asksOf l ++ qs) rs
   unfolding asksOf
-  form-before arrived here f = f
-  form-before (on next l) (then (came r rest e) t) f = said.more _ _ r rest _ e (form-before l t f)
+  form-before arrived (none _) f = f
+  form-before (on next l) (more _ _ r rest _ i h) f = said.more _ _ r rest _ (good-is i) (form-before l h f)

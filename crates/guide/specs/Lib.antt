@@ -5,5 +5,7 @@ pub mod Judged
 pub mod Plan
 pub mod Guide
 pub mod Matched
+pub mod Verdicts
+pub mod Course
 pub mod Statements
 pub mod Cleared

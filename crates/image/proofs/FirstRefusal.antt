@@ -51,12 +51,16 @@ pub record Reads (n : LineNumber) (t : List ℕ) : Type 0 where
   pub line : Line
   pub good : readLine n t ≡ reading.Good line
 
+-- all of these lines, the first of which has the number n
+abbrev pub AllRead : ℕ → List (List ℕ) → Type 0
+AllRead n ts = (i : ℕ) → i < length ts → Reads (lineNumber (n + i)) (getD ts i [])
+
 line-reads : (n : LineNumber) (t : List ℕ) (r : LineReading) → readLine n t ≡ r → lineAnswer n r ≡ Accepted → Reads n t
 unfolding lineAnswer
 line-reads n t (reading.Good l) p e = record { line = l; good = p }
 line-reads n t (reading.Refused r) p e = refused _ e
 
-pub lines-read : (ts : List (List ℕ)) (n : ℕ) → firstRefusal (lineAnswers n ts) ≡ Accepted → (i : ℕ) → i < length ts → Reads (lineNumber (n + i)) (getD ts i [])
+pub lines-read : (ts : List (List ℕ)) (n : ℕ) → firstRefusal (lineAnswers n ts) ≡ Accepted → AllRead n ts
 unfolding lineAnswers
 lines-read [] n e i h = absurd (let y : ⊥ = omega arith in y)
 lines-read (t ∷ ts) n e zero h =
@@ -66,7 +70,7 @@ lines-read (t ∷ ts) n e (suc i) h =
     let f : n + suc i ≡ n + 1 + i = omega arith in
     rw f (lines-read ts (n + 1) (first-cons _ (lineAnswers (n + 1) ts) e .1) i (omega arith))
 
-pub read-lines : (ts : List (List ℕ)) (n : ℕ) → ((i : ℕ) → i < length ts → Reads (lineNumber (n + i)) (getD ts i [])) → firstRefusal (lineAnswers n ts) ≡ Accepted
+pub read-lines : (ts : List (List ℕ)) (n : ℕ) → AllRead n ts → firstRefusal (lineAnswers n ts) ≡ Accepted
 unfolding lineAnswers lineAnswer firstRefusal
 read-lines [] n f = refl
 read-lines (t ∷ ts) n f =

@@ -1,20 +1,19 @@
 -- The lines of a text beside the bytes that they spell: what a line says is said by the bytes at its number. Assumes nothing.
 use mathlib.Core.Path.{_≡_, refl, ap}
 use mathlib.Core.List.{List, [], _∷_, map}
-use Prim.Native.Nat.{ℕ, zero, suc, _+_, _-_, _*_, _≤_, _<_}
+use Prim.Native.Nat.{ℕ, zero, suc, _+_, _-_, _≤_, _<_}
 use native.Mathlib.Omega.{arith}
 use lib.ListN.{length, getD}
 use Rattle.counts.specs.declared.LineNumber.{LineNumber}
-use Rattle.counts.specs.declared.Kind.{Kind}
-use Rattle.counts.specs.Counts.{lineNumber, stepOf, crcPlace, kindOf}
+use Rattle.counts.specs.Counts.{lineNumber, kindOf}
 use Rattle.line.specs.Digits.{digitVal, valuesOf}
 use Rattle.line.specs.Reading.{lineOf}
 use Rattle.line.specs.LineForm.{Spells, none as empty, LineForm}
 use Rattle.line.proofs.Spelling.{spells-values}
 use Rattle.line.proofs.GoodExactly.{form-good, good-form}
-use Rattle.image.specs.Says.{lineNo, revisionSays, fileKind, idLine, configCrcLine}
+use Rattle.image.specs.Says.{lineNo, revisionSays}
 use Rattle.image.specs.Meets.{dataIn, numbered, Spelled, none, line}
-use Rattle.image.proofs.FirstRefusal.{Reads}
+use Rattle.image.proofs.FirstRefusal.{AllRead}
 use Rattle.image.proofs.LineBytes.{first-is}
 
 pub spelled-length : {ts vs : List (List ℕ)} → Spelled ts vs → length ts ≡ length vs
@@ -42,20 +41,20 @@ Forms vs = (n : ℕ) → 1 ≤ n → n ≤ length vs → LineForm n (numbered vs
 
 -- ---- lines that read as good
 
-module _ (ts : List (List ℕ)) (reads : (i : ℕ) → i < length ts → Reads (lineNumber (1 + i)) (getD ts i [])) where
+module _ (ts : List (List ℕ)) (reads : AllRead 1 ts) where
   pub read-spelled : Spelled ts (valuesIn ts)
   read-spelled = all-spelled ts (λ i h. let r = reads i h in good-form (lineNumber (1 + i)) (getD ts i []) (r .line) (omega arith) (r .good) .spelled)
 
-  pub read-forms : Forms (valuesIn ts)
-  read-forms n g h =
+  pub read-forms : {vs : List (List ℕ)} → Spelled ts vs → Forms vs
+  read-forms spelled n g h =
       let i = n - 1 in
       let e : 1 + i ≡ n = omega arith in
-      let r = reads i (omega (arith, spelled-length read-spelled)) in
+      let r = reads i (omega (arith, spelled-length spelled)) in
       let f = good-form (lineNumber (1 + i)) (getD ts i []) (r .line) (omega arith) (r .good) .form in
-      rw (e, spells-values (spells-at read-spelled i)) at f
+      rw (e, spells-values (spells-at spelled i)) at f
 
 module _ {ts vs : List (List ℕ)} (spelled : Spelled ts vs) where
-  pub form-reads : Forms vs → (i : ℕ) → i < length ts → Reads (lineNumber (1 + i)) (getD ts i [])
+  pub form-reads : Forms vs → AllRead 1 ts
   form-reads f i h =
       let e : 1 + i - 1 ≡ i = omega arith in
       let g = f (1 + i) (omega arith) (omega (arith, spelled-length spelled)) in
@@ -73,12 +72,3 @@ module _ {ts vs : List (List ℕ)} (spelled : Spelled ts vs) where
   pub revision-is : Forms vs → 2 ≤ length vs → revisionSays ts ≡ kindOf (dataIn 0 (numbered vs 2))
   unfolding revisionSays
   revision-is f h = rw (says (lineNumber 2), first-is (f 2 (omega arith) h))
-
-  module _ {kind : Kind} (is : fileKind ts ≡ kind) (N : ℕ) where
-    pub id-line : idLine ts N ≡ lineOf (numbered vs (stepOf kind * N + 12))
-    unfolding idLine
-    id-line = rw is (says (lineNumber (stepOf kind * N + 12)))
-
-    pub crc-line : configCrcLine ts N ≡ lineOf (numbered vs (stepOf kind * N + crcPlace kind))
-    unfolding configCrcLine
-    crc-line = rw is (says (lineNumber (stepOf kind * N + crcPlace kind)))

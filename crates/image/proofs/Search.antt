@@ -1,6 +1,6 @@
 -- A search among numbers finds exactly what is there. Assumes nothing.
 use mathlib.Core.Path.{_≡_, refl}
-use mathlib.Core.Bool.{Bool, true, false, cond, true≢false}
+use mathlib.Core.Bool.{Bool, true, false, cond, true≢false, false≢true}
 use Prim.Native.Nat.{ℕ, zero, suc, _+_, _<_}
 use native.Mathlib.Omega.{arith}
 use native.Mathlib.Numerals.{add-one}
@@ -17,6 +17,11 @@ pub must-pass : (a b : Bool) → cond a b true ≡ false → (a ≡ true) × (b 
 must-pass true b e = (refl, e)
 must-pass false b e = absurd (true≢false e)
 
+-- a test that cannot be true
+pub refuted : (t : Bool) → (t ≡ true → ⊥) → t ≡ false
+refuted true f = absurd (f refl)
+refuted false f = refl
+
 -- ---- numbers under k
 
 module _ (test : ℕ → Bool) where
@@ -28,10 +33,11 @@ module _ (test : ℕ → Bool) where
       split (ltb n k) (λ t. none-below k (f .0) n (ltb-true n k t))
       (λ t. let q : n ≡ k = omega (arith, ltb-false n k t) in rw q (f .1))
 
-  pub below-none : (k : ℕ) → ((n : ℕ) → n < k → test n ≡ false) → someBelow k test ≡ false
+  pub some-below : (k : ℕ) → someBelow k test ≡ true → (n : ℕ) × (n < k) × (test n ≡ true)
   unfolding someBelow
-  below-none zero f = refl
-  below-none (suc k) f = rw (below-none k (λ n h. f n (omega arith)), f k (omega arith))
+  some-below zero e = absurd (false≢true e)
+  some-below (suc k) e =
+      split (someBelow k test) (λ f. let r = some-below k f in (r .0, omega (arith, r .1), r .2)) (λ f. (k, omega arith, simp f at e))
 
   -- one number more, for which it is false
   pub below-on : (k : ℕ) → someBelow k test ≡ false → test k ≡ false → someBelow (k + 1) test ≡ false

@@ -2,9 +2,7 @@
 use mathlib.Core.Path.{_≡_, refl, ap, _∙_}
 use mathlib.Core.Bool.{false}
 use mathlib.Core.List.{List, []}
-use Prim.Native.Nat.{ℕ, _+_, _<_}
-use lib.ListN.{length, getD}
-use Rattle.counts.specs.Counts.{lineNumber}
+use Prim.Native.Nat.{ℕ}
 use Rattle.cuts.specs.Lines.{linesOf}
 use Rattle.summary.specs.declared.Whole.the-variants.{Size, Count, Revision, Device, Burn, Spot, Same}
 use Rattle.summary.specs.declared.FileAnswer.{FileAnswer}
@@ -12,11 +10,11 @@ use Rattle.summary.specs.declared.FileAnswer.the-variants.{Accepted, Refused}
 use Rattle.image.specs.Says.{summaryOf}
 use Rattle.image.specs.Tests.{tooLong, tooFew, otherRevision, otherDevice, fitsNone, burnAmiss, otherSpot, sameIds}
 use Rattle.image.specs.Check.{refusedIf, firstRefusal, lineAnswers, wholeAnswers, answerOf, checkedAs, checkOf}
-use Rattle.image.proofs.FirstRefusal.{first-cons, first-append, append-first, passes, Reads, lines-read, read-lines}
+use Rattle.image.proofs.FirstRefusal.{first-cons, first-append, append-first, passes, AllRead, lines-read, read-lines}
 
 pub record Passed (s : List ℕ) : Type 0 where
   pub short : tooLong s ≡ false
-  pub reads : (i : ℕ) → i < length (linesOf s) → Reads (lineNumber (1 + i)) (getD (linesOf s) i [])
+  pub reads : AllRead 1 (linesOf s)
   pub many : tooFew (linesOf s) ≡ false
   pub revision : otherRevision (linesOf s) ≡ false
   pub device : otherDevice (linesOf s) ≡ false
@@ -50,13 +48,16 @@ passed s e =
       differ = passes (sameIds ls) Same (differ .0);
     }
 
-pub accepts : {s : List ℕ} → Passed s → answerOf s ≡ Accepted
-unfolding answerOf wholeAnswers refusedIf firstRefusal
-accepts {s} p =
+-- past its size and its lines, a text is answered by the tests of the whole file
+pub whole-answer : (s : List ℕ) → tooLong s ≡ false → AllRead 1 (linesOf s) → answerOf s ≡ firstRefusal (wholeAnswers (linesOf s))
+unfolding answerOf refusedIf firstRefusal
+whole-answer s short reads =
     let ls = linesOf s in
-    rw (p .short)
-    (append-first (lineAnswers 1 ls) (wholeAnswers ls) (read-lines ls 1 (p .reads))
-    ∙ rw (p .many, p .revision, p .device, p .fits, p .burn, p .spots, p .differ))
+    rw short (append-first (lineAnswers 1 ls) (wholeAnswers ls) (read-lines ls 1 reads))
+
+pub accepts : {s : List ℕ} → Passed s → answerOf s ≡ Accepted
+unfolding wholeAnswers refusedIf firstRefusal
+accepts {s} p = whole-answer s (p .short) (p .reads) ∙ rw (p .many, p .revision, p .device, p .fits, p .burn, p .spots, p .differ)
 
 pub answer-is : (s : List ℕ) → checkOf s .answer ≡ answerOf s
 unfolding checkOf checkedAs

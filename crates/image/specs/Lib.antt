@@ -5,5 +5,5 @@ pub mod Check
 pub mod Meets
 pub mod Unused
 pub mod Printed
-pub mod Where
+pub mod FileTable
 pub mod Private

@@ -8,6 +8,7 @@ use Rattle.counts.specs.declared.Kind.{Kind}
 use Rattle.counts.specs.declared.Kind.the-variants.{Legacy, Production}
 use Rattle.counts.specs.Counts.{configId}
 use Rattle.cuts.specs.Lines.{linesOf}
+use Rattle.cuts.specs.Text.{Text}
 use Rattle.line.specs.LineForm.{Spells, LineForm}
 use Rattle.image.specs.Says.{word}
 use Rattle.image.specs.Check.{checkOf}
@@ -45,26 +46,40 @@ pub record BurnBytes (v : List ℕ) : Type 0 where
 abbrev pub numbered : List (List ℕ) → ℕ → List ℕ
 numbered vs n = getD vs (n - 1) []
 
--- what the lines' bytes must be
-pub record MeetsValues (vs : List (List ℕ)) : Type 0 where
-  pub form : (n : ℕ) → 1 ≤ n → n ≤ length vs → LineForm n (numbered vs n)
+-- how a file is laid out: its revision names a kind, and it has n = 12 + s x k lines, k from 1 to 8
+pub record Laid (vs : List (List ℕ)) : Type 0 where
   pub kind : Kind
   pub step : ℕ
   pub crcPlace : ℕ
   pub revision : KindHas (dataIn 0 (numbered vs 2)) kind step crcPlace
-  pub device : Accepts29 (numbered vs 1)
-  -- n = 12 + s x k, k from 1 to 8
   pub configs : ℕ
   pub some : 1 ≤ configs
   pub few : configs ≤ 8
   pub count : length vs ≡ 12 + step * configs
+
+-- configuration N has the identifier line s x N + 12 and the CRC line s x N + c
+module _ {vs : List (List ℕ)} (l : Laid vs) (N : ℕ) where
+  abbrev pub idBytes : List ℕ
+  idBytes = numbered vs (l .step * N + 12)
+
+  abbrev pub crcBytes : List ℕ
+  crcBytes = numbered vs (l .step * N + l .crcPlace)
+
+  -- the line's tenth digit
+  abbrev pub idDigit : ℕ
+  idDigit = dataIn 0 idBytes % 16
+
+-- what the lines' bytes must be
+pub record MeetsValues (vs : List (List ℕ)) : Type 0 where
+  pub form : (n : ℕ) → 1 ≤ n → n ≤ length vs → LineForm n (numbered vs n)
+  pub laid : Laid vs
+  pub device : Accepts29 (numbered vs 1)
   pub burnLast : BurnBytes (numbered vs (length vs))
   pub burnOnce : (n : ℕ) → 1 ≤ n → n < length vs → BurnBytes (numbered vs n) → ⊥
-  -- identifier lines s x N + 12 and CRC lines s x N + c carry C6, and the identifiers differ
-  pub ids : (N : ℕ) → N < configs → commandIn (numbered vs (step * N + 12)) ≡ 0xC6
-  pub crcs : (N : ℕ) → N < configs → commandIn (numbered vs (step * N + crcPlace)) ≡ 0xC6
-  pub differ : (i j : ℕ) → j < i → i < configs →
-      dataIn 0 (numbered vs (step * i + 12)) % 16 ≡ dataIn 0 (numbered vs (step * j + 12)) % 16 → ⊥
+  -- identifier lines and CRC lines carry C6, and the identifiers differ
+  pub ids : (N : ℕ) → N < laid .configs → commandIn (idBytes laid N) ≡ 0xC6
+  pub crcs : (N : ℕ) → N < laid .configs → commandIn (crcBytes laid N) ≡ 0xC6
+  pub differ : (i j : ℕ) → j < i → i < laid .configs → idDigit laid i ≡ idDigit laid j → ⊥
 
 -- the bytes that the lines of a text spell, one list for each line
 pub data Spelled : List (List ℕ) → List (List ℕ) → Type 0 where
@@ -73,8 +88,10 @@ pub data Spelled : List (List ℕ) → List (List ℕ) → Type 0 where
 
 pub record Meets (s : List ℕ) : Type 0 where
   pub size : length s ≤ 65536
+  pub lines : List (List ℕ)
+  pub text : Text s lines
   pub values : List (List ℕ)
-  pub spelled : Spelled (linesOf s) values
+  pub spelled : Spelled lines values
   pub meets : MeetsValues values
 
 -- ---- the statement: a file's number is 0 if and only if it is what it must be
@@ -86,18 +103,16 @@ pub record AcceptedExactly (s : List ℕ) : Type 0 where
 -- ---- the statement: what the summary says of such a file, by the same bytes
 
 pub record SummarySays (s : List ℕ) (m : Meets s) : Type 0 where
-  pub kind : checkOf s .summary .kind ≡ m .meets .kind
+  pub kind : checkOf s .summary .kind ≡ m .meets .laid .kind
   pub identity :
       let one = numbered (m .values) 1 in
       checkOf s .summary .identity ≡ word (dataIn 0 one) (dataIn 1 one) (dataIn 2 one) (dataIn 3 one)
   pub lines : checkOf s .summary .lines ≡ length (m .values)
-  pub configs : checkOf s .summary .configs ≡ m .meets .configs
+  pub configs : checkOf s .summary .configs ≡ m .meets .laid .configs
   -- the text from there on has the lines behind the four of the header
-  pub line5 : linesOf (drop (checkOf s .summary .line5) s) ≡ drop 4 (linesOf s)
-  pub ids : (N : ℕ) → N < m .meets .configs →
-      let v = numbered (m .values) (m .meets .step * N + 12) in
-      getD (checkOf s .summary .ids) N (configId 0) ≡ configId (dataIn 0 v % 16)
+  pub line5 : linesOf (drop (checkOf s .summary .line5) s) ≡ drop 4 (m .lines)
+  pub ids : (N : ℕ) → N < m .meets .laid .configs → getD (checkOf s .summary .ids) N (configId 0) ≡ configId (idDigit (m .meets .laid) N)
   -- the lowest byte first
-  pub crcs : (N : ℕ) → N < m .meets .configs →
-      let v = numbered (m .values) (m .meets .step * N + m .meets .crcPlace) in
+  pub crcs : (N : ℕ) → N < m .meets .laid .configs →
+      let v = crcBytes (m .meets .laid) N in
       getD (checkOf s .summary .crcs) N 0 ≡ word (dataIn 3 v) (dataIn 2 v) (dataIn 1 v) (dataIn 0 v)

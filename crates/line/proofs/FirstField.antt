@@ -9,9 +9,9 @@ use borrow.Author.Tests.{leb-true, leb-false, lt-leb, eqb-true, eqb-false, eq-eq
 use Rattle.line.specs.Places.{tagOf, commandOk, formPlace}
 use Rattle.line.specs.Reading.{formOk}
 use Rattle.line.specs.LineForm.{Row, identity, revision, third, fourth, two, four}
-use Rattle.line.specs.PlaceTells.{FirstField, byTag, byAddress, byCommand, byCount}
+use Rattle.line.specs.LineTable.{FirstField, byTag, byAddress, byCommand, byCount}
 use Rattle.promise.proofs.Basics.{split}
-use Rattle.line.proofs.Rows.{row-ok}
+use Rattle.line.proofs.Rows.{row-ok, ok-row}
 
 -- ---- tag and command of the rows
 
@@ -116,3 +116,14 @@ module _ {n tag address command count : ℕ} (g : 1 ≤ n) where
       (byCommand (s .0) (s .1 .count) row (eqb-true address 0xC0 a) (λ k r. true≢false (sym (row-command r) ∙ c)))))
       (λ a. rw (t, a) (byAddress (s .0) (s .1 .count) row (eqb-false address 0xC0 a))))
       (λ t. rw t (byTag (λ c k r. eqb-false tag (tagOf n) t (row-tag r))))
+
+  -- a row that has every field leaves none that breaks the table
+  row-leaves-none : {p : ℕ} → (address ≡ 0xC0) × Row n tag command count → FirstField n tag address command count p → ⊥
+  row-leaves-none ok (byTag never) = never command count (ok .1)
+  row-leaves-none ok (byAddress c k row never) = never (ok .0)
+  row-leaves-none ok (byCommand c k row a never) = never count (ok .1)
+  row-leaves-none ok (byCount k row a never) = never (ok .1)
+
+  pub field-fails : {p : ℕ} → FirstField n tag address command count p → formOk n tag address command count ≡ false
+  field-fails f =
+      split (formOk n tag address command count) (λ e. absurd (row-leaves-none (ok-row n command count tag address g e) f)) (λ e. e)

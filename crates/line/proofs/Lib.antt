@@ -6,5 +6,5 @@ pub mod Rows
 pub mod Order
 pub mod GoodExactly
 pub mod FirstField
-pub mod PlaceExactly
+pub mod LineExactly
 pub mod OneAnswer

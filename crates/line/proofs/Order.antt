@@ -11,18 +11,26 @@ use Rattle.line.specs.Reading.{coveredOf, lastOf}
 abbrev pub layout : ℕ → ℕ → ℕ → ℕ → List ℕ → ℕ → List ℕ
 layout tag size address command content crc = tag ∷ size ∷ address ∷ command ∷ (content ++ (crc ∷ []))
 
+-- the CRC is the last byte, and covers what stands between it and the length byte, however much that is
+module _ (tag size : ℕ) (covered : List ℕ) (crc : ℕ) where
+  before-crc : length (tag ∷ size ∷ (covered ++ (crc ∷ []))) - 1 ≡ suc (suc (length covered))
+  before-crc = omega (arith, length-append covered (crc ∷ []))
+
+  pub framed-last : lastOf (tag ∷ size ∷ (covered ++ (crc ∷ []))) ≡ crc
+  framed-last = rw before-crc (getD-at covered crc [] 0 (length covered) refl)
+
+  pub framed-covered : coveredOf (tag ∷ size ∷ (covered ++ (crc ∷ []))) ≡ covered
+  framed-covered = rw before-crc (take-at covered (crc ∷ []) (length covered) refl)
+
 module _ (tag size address command : ℕ) (content : List ℕ) (crc : ℕ) where
   pub layout-length : length (layout tag size address command content crc) ≡ 5 + length content
   layout-length = omega (arith, length-append content (crc ∷ []))
 
-  before-crc : length (layout tag size address command content crc) - 1 ≡ suc (suc (suc (suc (length content))))
-  before-crc = omega (arith, layout-length)
-
   pub layout-last : lastOf (layout tag size address command content crc) ≡ crc
-  layout-last = rw before-crc (getD-at content crc [] 0 (length content) refl)
+  layout-last = framed-last tag size (address ∷ command ∷ content) crc
 
   pub layout-covered : coveredOf (layout tag size address command content crc) ≡ address ∷ command ∷ content
-  layout-covered = rw before-crc (ap (λ (l : List ℕ). address ∷ command ∷ l) (take-at content (crc ∷ []) (length content) refl))
+  layout-covered = framed-covered tag size (address ∷ command ∷ content) crc
 
 -- ---- every such list has it
 

@@ -3,5 +3,5 @@ pub mod Places
 pub mod Reading
 pub mod Lent
 pub mod LineForm
-pub mod PlaceTells
+pub mod LineTable
 pub mod Private

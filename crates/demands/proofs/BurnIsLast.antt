@@ -1,0 +1,51 @@
+-- The last write line of a file that meets the document goes out as the burn. Assumes nothing.
+use mathlib.Core.Path.{_≡_, refl, ap, _∙_}
+use mathlib.Core.List.{List, [], _∷_, _++_}
+use Prim.Native.Nat.{ℕ, suc, _+_, _-_, _≤_}
+use native.Mathlib.Omega.{arith}
+use lib.ListN.{length, getD, drop, length-drop}
+use lib.Seq.{getD-drop}
+use Rattle.image.specs.Meets.{numbered, Meets}
+use Rattle.image.proofs.LaidOut.{laid-many}
+use Rattle.bus.specs.declared.Request.{Request}
+use Rattle.demands.specs.Headline.{asItStands, allAsTheyStand, burn}
+use Rattle.demands.proofs.LinesAsTheyStand.{burn-stands}
+
+abbrev lastOf : List (List ℕ) → List ℕ
+lastOf vs = getD vs (length vs - 1) []
+
+last-off : (vs : List (List ℕ)) → 1 ≤ length vs → (before : List (List ℕ)) × (vs ≡ before ++ (lastOf vs ∷ []))
+last-off [] h = absurd (let y : ⊥ = omega arith in y)
+last-off (v ∷ []) h = ([], refl)
+last-off (v ∷ u ∷ vs) h =
+    let k = last-off (u ∷ vs) (omega arith) in
+    let e : suc (suc (length vs)) - 1 ≡ suc (suc (length vs) - 1) = omega arith in
+    (v ∷ k .0, rw e (ap (λ (l : List (List ℕ)). v ∷ l) (k .1)))
+
+stand-both : (a b : List (List ℕ)) → allAsTheyStand (a ++ b) ≡ allAsTheyStand a ++ allAsTheyStand b
+unfolding allAsTheyStand
+stand-both [] b = refl
+stand-both (v ∷ a) b = ap (λ (l : List Request). asItStands v ∷ l) (stand-both a b)
+
+module _ {text : List ℕ} (m : Meets text) where
+  abbrev vs : List (List ℕ)
+  vs = m .values
+
+  many : 13 ≤ length vs
+  many = laid-many (m .meets .laid)
+
+  pub last-burns : asItStands (lastOf (drop 4 vs)) ≡ burn
+  last-burns =
+      let long = length-drop 4 vs in
+      let e : 4 + (length (drop 4 vs) - 1) ≡ length vs - 1 = omega (arith, many) in
+      let is : lastOf (drop 4 vs) ≡ numbered vs (length vs) = rw (getD-drop 4 vs (length (drop 4 vs) - 1) [], e) in
+      rw is
+      (burn-stands (length vs) (numbered vs (length vs)) (omega (arith, many)) (m .meets .form (length vs) (omega (arith, many)) (omega arith))
+      (m .meets .burnLast))
+
+  pub burn-is-last : (lines : List Request) × (allAsTheyStand (drop 4 vs) ≡ lines ++ (burn ∷ []))
+  unfolding allAsTheyStand
+  burn-is-last =
+      let long = length-drop 4 vs in
+      let k = last-off (drop 4 vs) (omega (arith, many)) in
+      (allAsTheyStand (k .0), ap allAsTheyStand (k .1) ∙ (stand-both (k .0) _ ∙ rw last-burns))

@@ -1,0 +1,65 @@
+-- What step 1 writes back, of what went out: along the path of its first two exchanges. Assumes nothing.
+use mathlib.Core.Path.{_≡_, refl, ap, _∙_}
+use mathlib.Core.Bool.{cond}
+use mathlib.Core.List.{List, [], _∷_}
+use Prim.Native.Nat.{ℕ}
+use Rattle.image.specs.Check.{checkOf}
+use Rattle.image.specs.Meets.{Meets}
+use Rattle.bus.specs.declared.Request.{Request}
+use Rattle.bus.specs.Bus.{writeOf, wordBytes}
+use Rattle.guide.specs.Requests.{pointTo, readData, device}
+use Rattle.guide.specs.Judged.{cleared}
+use Rattle.guide.specs.Plan.{Reply, Plan, requests, bare}
+use Rattle.guide.specs.Guide.{write, step1, step2, lines, guide, writeLinesOf, guideFor}
+use Rattle.guide.specs.Matched.{Exchange, wrote, got, Heard, askedIn}
+use Rattle.guide.proofs.Through.{Leads, arrived, on, asksOf, asks-are, leads-requests}
+use Rattle.guide.proofs.Every.{behind}
+use Rattle.guide.proofs.CourseIsGuide.{bare-append}
+use Rattle.guide.proofs.StepOneClears.{writes-back}
+use Rattle.session.specs.declared.Settings.{Settings}
+use Rattle.session.specs.Terms.{termsOf}
+use Rattle.session.specs.Begin.{beginOf}
+use Rattle.demands.specs.Runs.{sent}
+use Rattle.demands.specs.Headline.{Allowed}
+use Rattle.demands.specs.Asked.{WroteBack}
+use Rattle.demands.proofs.Guided.{guided}
+use Rattle.demands.proofs.Demand2.{premises}
+
+-- a plan that asks puts its request out, whatever comes
+asks-first : (q : Request) (next : Plan) (rs : List Reply) → (rest : List Request) × (bare (requests (write q next) rs) ≡ q ∷ rest)
+unfolding requests bare
+asks-first q next [] = (_, refl)
+asks-first q next (r ∷ rs) = (_, refl)
+
+-- step 1 up to what it writes back
+module _ (rest : Plan) (w : ℕ) where
+  abbrev first2 : List Exchange
+  first2 = wrote (pointTo 0xA2 0x00) ∷ got readData w ∷ []
+
+  abbrev third : Request
+  third = writeOf device 0xC5 (wordBytes (cleared w))
+
+  abbrev from4 : Plan
+  from4 = write (writeOf device 0xE7 (0x02 ∷ 0x00 ∷ [])) rest
+
+  leads2 : Leads (step1 rest) first2 (write third from4)
+  unfolding step1
+  leads2 = on _ (on _ arrived)
+
+  step1-writes : (rs left : List Reply) → Heard first2 rs left
+      → (more : List Request) × (bare (requests (step1 rest) rs) ≡ pointTo 0xA2 0x00 ∷ readData ∷ third ∷ more)
+  unfolding askedIn
+  step1-writes rs left h =
+      let next = asks-first third from4 left in
+      let asked : bare (asksOf leads2) ≡ pointTo 0xA2 0x00 ∷ readData ∷ [] = asks-are leads2 in
+      (next .0, ap bare (leads-requests leads2 h) ∙ (bare-append (asksOf leads2) (requests (write third from4) left) ∙ rw (asked, next .1)))
+
+pub wrote-back : (S : Settings) {text : List ℕ} → Meets text → Allowed (termsOf S) → (rs : List Reply)
+    → WroteBack (termsOf S) rs (sent text (beginOf S text) rs)
+unfolding WroteBack guideFor guide
+wrote-back S {text} m a rs wanted w left small h =
+    let T = termsOf S in
+    let rest = step2 T (checkOf text .summary) (lines 5 (writeLinesOf text) (behind T (checkOf text .summary))) in
+    let b = step1-writes rest w rs left h in
+    let begun = ap (λ x. bare (requests (cond x (step1 rest) rest) rs)) wanted in
+    (third rest w, b .0, guided (premises S m a) rs .sameRequests ∙ (begun ∙ b .1), writes-back w small)
