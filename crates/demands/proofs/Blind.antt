@@ -10,7 +10,7 @@ use Rattle.bus.specs.declared.ReplyForm.the-variants.{Good}
 use Rattle.bus.specs.ReplyForm.{doneForm, formOf}
 use Rattle.bus.specs.InForm.{InForm, Says, Means}
 use Rattle.bus.proofs.FormMeans.{good-is, form-means}
-use Rattle.guide.proofs.Ways.{made-write}
+use Rattle.guide.proofs.Writes.{made-write}
 use Rattle.guide.specs.declared.Words.{Words}
 use Rattle.guide.specs.Plan.{Reply}
 use Rattle.guide.specs.Matched.{Exchange, wrote, got, Heard, none, more, heard2}

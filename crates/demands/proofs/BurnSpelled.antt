@@ -1,6 +1,6 @@
 -- Counting the burn's bytes among requests tells whether the burn is one of them; and replies in form to the guide's requests are
 -- what the bytes say. Assumes nothing.
-use mathlib.Core.Path.{_≡_, refl}
+use mathlib.Core.Path.{_≡_, refl, sym, ap, _∙_}
 use mathlib.Core.Logic.{⊎-elim}
 use mathlib.Core.Bool.{Bool, true, false, cond}
 use mathlib.Core.List.{List, [], _∷_, _++_, List·Memᴰ, List·Memᴰ·head, List·Memᴰ·tail, List·Memᴰ·cases-cons, List·Memᴰ·not-nil}
@@ -8,10 +8,12 @@ use Prim.Native.Nat.{ℕ, suc, _+_, _≤_}
 use native.Mathlib.Omega.{arith}
 use Rattle.bus.specs.declared.Request.{Request}
 use Rattle.bus.specs.declared.ReplyForm.the-variants.{Good}
-use Rattle.bus.specs.Bus.{eight, writeOf}
+use Rattle.bus.specs.Bus.{eight, framed, writeOf, readOf}
 use Rattle.bus.specs.InForm.{Made, write, register, block, Says, Means}
 use Rattle.bus.proofs.FormMeans.{form-means}
+use Rattle.guide.specs.declared.Words.{Words}
 use Rattle.guide.specs.Plan.{Reply, Asked, requests, bare}
+use Rattle.guide.specs.Matched.{askedIn, opening}
 use Rattle.guide.specs.Guide.{writeLinesOf, guideFor}
 use Rattle.guide.specs.Requests.{lineRequest}
 use Rattle.guide.specs.Statements.{sameBytes, burnBytes, spellings, AllInForm}
@@ -48,6 +50,37 @@ mem-spelled (q ∷ qs) m =
     one : (c : Bool) → 1 ≤ spellings qs → 1 ≤ cond c (suc (spellings qs)) (spellings qs)
     one true h = omega arith
     one false h = h
+
+-- ---- the same of bare requests: those of steps 1 and 2 do not spell it, nor does a beginning of them
+
+unfoldable spelt : List Request → ℕ
+spelt [] = 0
+spelt (q ∷ qs) = cond (sameBytes (q .bytes) (eight burnBytes)) (suc (spelt qs)) (spelt qs)
+
+bare-spelt : (qs : List Asked) → spellings qs ≡ spelt (bare qs)
+unfolding spellings spelt bare
+bare-spelt [] = refl
+bare-spelt (q ∷ qs) = rw (bare-spelt qs)
+
+spelt-more : (a b : List Request) → spelt a ≤ spelt (a ++ b)
+unfolding spelt
+spelt-more [] b = omega arith
+spelt-more (q ∷ a) b = one (sameBytes (q .bytes) (eight burnBytes)) (spelt-more a b)
+  where
+    one : (c : Bool) → spelt a ≤ spelt (a ++ b) → cond c (suc (spelt a)) (spelt a) ≤ cond c (suc (spelt (a ++ b))) (spelt (a ++ b))
+    one true h = omega arith
+    one false h = h
+
+opening-spelt : (wanted : Bool) (captured : ℕ) (read : Words) → spelt (askedIn (opening wanted captured read)) ≡ 0
+unfolding spelt askedIn opening writeOf readOf framed eight sameBytes
+opening-spelt true captured read = refl
+opening-spelt false captured read = refl
+
+pub opening-none : (qs : List Asked) (rest : List Request) (wanted : Bool) (captured : ℕ) (read : Words)
+    → askedIn (opening wanted captured read) ≡ bare qs ++ rest → spellings qs ≡ 0
+opening-none qs rest wanted captured read e =
+    let whole : spelt (bare qs ++ rest) ≡ 0 = ap spelt (sym e) ∙ opening-spelt wanted captured read in
+    omega (arith, bare-spelt qs, spelt-more (bare qs) rest)
 
 -- ---- replies in form
 

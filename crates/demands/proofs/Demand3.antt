@@ -31,7 +31,7 @@ use Rattle.guide.proofs.Every.{behind}
 use Rattle.guide.proofs.FileFacts.{lines-are as lines-count, some-line}
 use Rattle.guide.proofs.CourseIsGuide.{bare-append}
 use Rattle.guide.proofs.GateUnless.{Begins12, gate-unless12}
-use Rattle.guide.proofs.GateHolds.{reached, gate-next}
+use Rattle.guide.proofs.GateOpens.{reached, gate-next}
 use Rattle.session.specs.declared.Settings.{Settings}
 use Rattle.session.specs.declared.Answer.the-variants.{BadState}
 use Rattle.session.specs.Begin.{newPosition, freshOf, startOf, beginOf}

@@ -1,6 +1,6 @@
 -- The headline: if the burn was put out, it was allowed to be. Assumes nothing.
 use mathlib.Core.Path.{_≡_, refl, sym, ap, _∙_}
-use mathlib.Core.Logic.{⊎-elim}
+use mathlib.Core.Logic.{_⊎_, inl, inr}
 use mathlib.Core.Bool.{true}
 use mathlib.Core.List.{List, [], _∷_, _++_, append-assoc, List·Memᴰ, List·Memᴰ·not-nil, Memᴰ·append-left}
 use Prim.Native.Nat.{ℕ, suc, _+_, _-_, _≤_}
@@ -22,8 +22,9 @@ use Rattle.guide.specs.Matched.{Matched, askedIn, opening}
 use Rattle.guide.specs.Statements.{burnsIn, beforeBurn, spellings, SpelledOnce, AllInForm}
 use Rattle.guide.proofs.Through.{asked}
 use Rattle.guide.proofs.Every.{behind}
-use Rattle.guide.proofs.GateHolds.{Reached, reached, gate-unless}
-use Rattle.guide.proofs.Burning.{burns-behind, before-behind, no-burns}
+use Rattle.guide.proofs.GateOpens.{Reached, reached}
+use Rattle.guide.proofs.GateUnless.{Begins12, gate-unless12}
+use Rattle.guide.proofs.Burning.{burns-behind, before-behind}
 use Rattle.guide.specs.declared.Verdict.the-variants.{Setting, File}
 use Rattle.session.specs.declared.Settings.{Settings}
 use Rattle.session.specs.Sound.{allowedOf}
@@ -38,7 +39,7 @@ use Rattle.demands.proofs.SettingsSay.{allowed-is, not-reserved, refuse
 use Rattle.demands.proofs.BurnIsLast.{last-burns}
 use Rattle.demands.proofs.ContentIs.{spelled-drop, formed, target-is}
 use Rattle.demands.proofs.BurnReached.{marked, marked-bare, Reach, reach}
-use Rattle.demands.proofs.BurnSpelled.{spellings-append, burn-spelled, mem-spelled, said-in-form, guide-made}
+use Rattle.demands.proofs.BurnSpelled.{spellings-append, opening-none, burn-spelled, mem-spelled, said-in-form, guide-made}
 use Rattle.session.specs.Terms.{termsOf}
 use Rattle.guide.specs.Terms.{Terms}
 use Rattle.guide.proofs.BurnsOnce.{burns-once}
@@ -78,9 +79,11 @@ module _ {S : Settings} {text : List ℕ} {file : Summary} (P : Premises S text 
 
   module _ (some : 1 ≤ burnsIn n list) where
     was-matched : Matched T (targetOf file) rs
-    unfolding guideFor
-    was-matched =
-        ⊎-elim (λ x. x) (λ e. absurd (let y : ⊥ = omega (arith, no-burns n list e) in y)) (gate-unless T file (writeLinesOf text) rs)
+    was-matched = by (gate-unless12 T file text (facts P .few) rs)
+      where
+        by : Matched T (targetOf file) rs ⊎ Begins12 T file text (facts P .few) rs → Matched T (targetOf file) rs
+        by (inl w) = w
+        by (inr (captured, read, more, e)) = absurd (let y : ⊥ = omega (arith, opening-none list more (T .wanted) captured read e, spells) in y)
 
     matched : Matched T (targetIn m) rs
     matched =

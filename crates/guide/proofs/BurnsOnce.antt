@@ -12,7 +12,7 @@ use Rattle.guide.specs.Matched.{Matched}
 use Rattle.guide.specs.Statements.{burnsIn, beforeBurn, AllInForm}
 use Rattle.guide.proofs.Every.{behind}
 use Rattle.guide.proofs.Burning.{behind-plain, burns-behind, before-behind, no-burns, lines-once}
-use Rattle.guide.proofs.GateHolds.{Reached, reached}
+use Rattle.guide.proofs.GateOpens.{Reached, reached}
 use Rattle.guide.specs.Terms.{Terms}
 
 module _ (T : Terms) (file : Summary) (ls : List Line) (rs : List Reply) (counted : file .lines ≡ 4 + length ls)

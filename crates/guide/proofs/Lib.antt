@@ -4,7 +4,7 @@ pub mod BeginsAndSettles
 pub mod Banks
 pub mod FileFacts
 pub mod Through
-pub mod Ways
+pub mod Writes
 pub mod Opening
 pub mod Statuses
 pub mod ReplyExactly
@@ -18,7 +18,7 @@ pub mod CourseExactly
 pub mod GateUnless
 pub mod Bounded
 pub mod Burning
-pub mod GateHolds
+pub mod GateOpens
 pub mod BurnsOnce
 pub mod LineBytes
 pub mod LentTable

@@ -24,7 +24,7 @@ use Rattle.guide.specs.Matched.{Exchange, got, Heard, none, more, heard1
 use Rattle.guide.specs.Verdicts.{ReplyTable}
 use Rattle.guide.specs.Course.{Config, heard3, heard4, heardConfig, heard6, lineRequests, Polling, Next, here, there}
 use Rattle.guide.proofs.Through.{heard-both}
-use Rattle.guide.proofs.Ways.{Came, came-none, made-write}
+use Rattle.guide.proofs.Writes.{Came, came-none, made-write}
 use Rattle.guide.proofs.Statuses.{clear-more}
 use Rattle.guide.proofs.ReplyExactly.{Replied, inForm, halted, replied}
 

@@ -1,7 +1,5 @@
--- The gate in the guide's list, by the marks of its requests: no write line unless identity, revision, kind and places matched, and the
--- first is next where they did. Assumes nothing.
+-- Where they matched, step 3 begins behind exactly the requests of steps 1 and 2, and the first write line is next. Assumes nothing.
 use mathlib.Core.Path.{_≡_, refl, ap, _∙_}
-use mathlib.Core.Logic.{_⊎_, inr, ⊎-swap}
 use mathlib.Core.List.{List, [], _∷_, _++_}
 use Prim.Native.Nat.{_≤_}
 use native.Mathlib.Omega.{arith}
@@ -9,23 +7,15 @@ use lib.ListN.{length}
 use Rattle.line.specs.declared.Line.{Line}
 use Rattle.summary.specs.declared.Summary.{Summary}
 use Rattle.guide.specs.declared.Fit.{Fit}
-use Rattle.guide.specs.Plan.{Reply, other, Asked, Plan, requests, bare}
+use Rattle.guide.specs.Plan.{Reply, Asked, Plan, requests, bare}
 use Rattle.guide.specs.Guide.{gate, lines, guide, targetOf}
 use Rattle.guide.specs.Matched.{opening, Matched, askedIn}
-use Rattle.guide.specs.Statements.{isLine, linesIn, lineAsked, AllInForm}
+use Rattle.guide.specs.Statements.{linesIn, lineAsked, AllInForm}
 use Rattle.guide.proofs.JudgedExactly.{judged-exactly}
 use Rattle.guide.proofs.Through.{asksOf, asks-are, leads-requests, form-behind, form-before}
-use Rattle.guide.proofs.Ways.{Keeps}
-use Rattle.guide.proofs.Opening.{opening-way, opens}
+use Rattle.guide.proofs.Opening.{opens}
 use Rattle.guide.proofs.Every.{behind}
 use Rattle.guide.specs.Terms.{Terms}
-
-abbrev Quiet : Plan → List Reply → Type 0
-Quiet p rs = linesIn (requests p rs) ≡ []
-
-quiet-keeps : Keeps other Quiet
-unfolding requests linesIn isLine
-quiet-keeps = record { waits = λ q next. refl; back = λ q next r rs e. e; ends = λ v rs h. refl }
 
 module _ (T : Terms) (file : Summary) (ls : List Line) (rs : List Reply) where
   abbrev gated : Plan
@@ -33,10 +23,6 @@ module _ (T : Terms) (file : Summary) (ls : List Line) (rs : List Reply) where
 
   abbrev out : List Asked
   out = requests (guide T file ls) rs
-
-  pub gate-unless : Matched T (targetOf file) rs ⊎ (linesIn out ≡ [])
-  unfolding guide
-  gate-unless = ⊎-swap (opening-way T file quiet-keeps gated rs λ m last t. inr m)
 
   -- where they matched, step 3 begins behind the opening
   pub record Reached (m : Matched T (targetOf file) rs) : Type 0 where
