@@ -112,6 +112,10 @@ module _ (target : Target) (kept : ℕ) (read : Words) where
   unfolding Tells
   fit-first r e = subst Tells e fit-tells
 
+  pub fit-none : fitOf target kept read ≡ Matched → (m N : ℕ) → Table m N → ⊥
+  unfolding Tells
+  fit-none e = subst Tells e fit-tells
+
   -- ---- and the first is what fails
 
   pub fit-is : {m N : ℕ} → First Table m N → (r : Reason) × (fitOf target kept read ≡ Fails r) × (reasonNumber r ≡ m) × (0 ≡ N)

@@ -15,6 +15,8 @@ pub mod CourseIsGuide
 pub mod StepByStep
 pub mod SomeCourse
 pub mod CourseExactly
+pub mod FewerKept
+pub mod ShortOfPlaces
 pub mod GateUnless
 pub mod Bounded
 pub mod Burning
