@@ -17,9 +17,10 @@ use Rattle.guide.specs.Matched.{Exchange, Heard, askedIn}
 use Rattle.guide.specs.Course.{heard3, heard4, heard6, configsIn, contentOf, Said, Now, over, shown, opened, Reported, DONE, Course, judged}
 use Rattle.guide.proofs.Banks.{ones, ones-small, ones-right}
 use Rattle.session.specs.declared.Settings.{Settings}
-use Rattle.session.specs.Terms.{termsOf}
-use Rattle.demands.specs.Headline.{Allowed, burn}
+use Rattle.session.specs.Terms.{keeping}
+use Rattle.demands.specs.Headline.{Allowed, Keeps, burn}
 use Rattle.demands.specs.Demands.{OfBytes, CanEnd, contentIn, reportFor}
+use Rattle.demands.proofs.SettingsSay.{kept-few}
 use Rattle.demands.proofs.PremisesGive.{facts}
 use Rattle.demands.proofs.BurnIsLast.{burn-is-last}
 use Rattle.demands.proofs.ContentIs.{crc-is, lines-are, content-is}
@@ -45,15 +46,15 @@ line-asked first lines rest x =
     rw (asked-both first (heard3 lines ++ rest), asked-both (heard3 lines) rest, lines-asked lines)
     (Memᴰ·append-right (askedIn first) (Memᴰ·append-left (askedIn rest) x))
 
-module _ (S : Settings) {text : List ℕ} (m : Meets text) (a : Allowed (termsOf S)) where
+module _ (S : Settings) {kept : ℕ} (r : Keeps (S .rule) kept) {text : List ℕ} (m : Meets text) (a : Allowed (keeping kept S)) where
   abbrev T : Terms
-  T = termsOf S
+  T = keeping kept S
 
   abbrev file : Summary
   file = checkOf text .summary
 
   few : file .configs ≤ 8
-  few = facts (premises S m a) .few
+  few = facts (premises S r m a) .few
 
   identity-lt : file .identity < 4294967296
   identity-lt = rw (summary-says m .identity) (word-lt text m 1 0 1 2 3)
@@ -96,7 +97,7 @@ module _ (S : Settings) {text : List ℕ} (m : Meets text) (a : Allowed (termsOf
             record {
               fitting =
                   record {
-                    fits = fitting file (T .kept) (omega (arith, few));
+                    fits = fitting file kept (omega (arith, few, kept-few r));
                     polling = record { clear = λ i h. absurd (let y : ⊥ = omega arith in y); within = a .some };
                   };
               passed = refl;
@@ -116,7 +117,7 @@ module _ (S : Settings) {text : List ℕ} (m : Meets text) (a : Allowed (termsOf
 
   pub can-end : CanEnd S text
   can-end =
-      let d = demand2 S m a rs in
+      let d = demand2 S r m a rs in
       let o = d .only (over 0 0) (askedIn all) goes in
       record {
         replies = rs;

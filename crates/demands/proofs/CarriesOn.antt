@@ -1,6 +1,6 @@
 -- What a session is handed on as: count, burn mark, settings and file, of every reply. Assumes nothing.
 use Prim.Native.Nat.{ℕ, _+_}
-use mathlib.Core.Path.{refl, sym, ap}
+use mathlib.Core.Path.{_≡_, refl, sym, ap}
 use mathlib.Core.Bool.{Bool, true, false, cond}
 use mathlib.Core.List.{List}
 use Rattle.bus.specs.declared.Request.{Request}
@@ -18,6 +18,7 @@ use Rattle.session.specs.Reply.{repliedOf, stageOf, replyOf}
 use Rattle.demands.specs.Exactly.{Carried, CarriesOn}
 use Rattle.demands.proofs.Cases.{next-bad, next-over}
 use Rattle.demands.proofs.EveryStep.{Kept, step-every}
+use Rattle.demands.proofs.SettingsSay.{held-rule}
 
 module _ (s : Session) where
   put-carried : (g : Awaited) (t : Session) → Kept s t → (next : Awaited) (q : Request) → Carried s (putOf t next q)
@@ -44,21 +45,21 @@ module _ (s : Session) where
   bad-carried = record { counts = λ e. next-bad (sym e); rests = λ f. (refl, refl); burned = λ e. e; settings = refl; file = refl }
 
 module _ (text : List ℕ) (s : Session) (kind : ℕ) (bs : List ℕ) where
-  replied-carried : (g : Awaited) (f : ReplyForm) → Carried s (repliedOf text s g f)
+  replied-carried : soundOf s ≡ true → (g : Awaited) (f : ReplyForm) → Carried s (repliedOf text s g f)
   unfolding repliedOf
-  replied-carried g Unanswered = end-carried s g _
-  replied-carried g Misshapen = end-carried s g _
-  replied-carried g Miscoded = end-carried s g _
-  replied-carried g (Good word) =
-      step-every text s word (λ h. Carried s) (put-carried s) (end-carried s) (λ h n d u. bad-carried s) g
+  replied-carried ok g Unanswered = end-carried s g _
+  replied-carried ok g Misshapen = end-carried s g _
+  replied-carried ok g Miscoded = end-carried s g _
+  replied-carried ok g (Good word) =
+      step-every text s (held-rule s ok) word (λ h. Carried s) (put-carried s) (end-carried s) (λ h n d u. bad-carried s) g
 
-  open-carried : (g : Awaited) (b : Bool) → Carried s (cond b (repliedOf text s g (formOf (s .hand) kind bs)) (badOf s))
-  open-carried g true = replied-carried g _
-  open-carried g false = bad-carried s
+  open-carried : (g : Awaited) (b : Bool) → soundOf s ≡ b → Carried s (cond b (repliedOf text s g (formOf (s .hand) kind bs)) (badOf s))
+  open-carried g true e = replied-carried e g _
+  open-carried g false e = bad-carried s
 
   stage-carried : (g : Stage) → Carried s (stageOf text s kind bs g)
   unfolding stageOf
-  stage-carried (Open g) = open-carried g (soundOf s)
+  stage-carried (Open g) = open-carried g (soundOf s) refl
   stage-carried (Ended v) = over-carried s v
 
   pub carries-on : CarriesOn text s kind bs

@@ -24,11 +24,11 @@ use Rattle.guide.specs.Course as course
 use Rattle.guide.proofs.CourseExactly.{course-exactly}
 use Rattle.session.specs.declared.Settings.{Settings}
 use Rattle.session.specs.Reports.{reportOf}
-use Rattle.session.specs.Terms.{termsOf}
+use Rattle.session.specs.Terms.{keeping}
 use Rattle.session.specs.declared.Handed.{Handed}
 use Rattle.session.specs.Begin.{startOf, beginOf}
 use Rattle.demands.specs.Runs.{sent, after}
-use Rattle.demands.specs.Headline.{Allowed}
+use Rattle.demands.specs.Headline.{Allowed, Keeps}
 use Rattle.demands.specs.Guided.{Premises, answerFor, Guided}
 use Rattle.demands.specs.Demands.{reportFor, Demand2}
 use Rattle.demands.proofs.PremisesGive.{facts}
@@ -36,8 +36,8 @@ use Rattle.demands.proofs.Guided.{guided-start, guided}
 use Rattle.demands.proofs.ContentIs.{content-is}
 
 -- a text that meets the document is accepted
-pub premises : (S : Settings) {text : List ℕ} → Meets text → Allowed (termsOf S) → Premises S text (checkOf text .summary)
-premises S {text} m a = record { accepted = accepted-exactly text .meets-accepted m; summary = refl; allowed = a }
+pub premises : (S : Settings) {kept : ℕ} → Keeps (S .rule) kept → {text : List ℕ} → Meets text → Allowed (keeping kept S) → Premises S kept text (checkOf text .summary)
+premises S r {text} m a = record { accepted = accepted-exactly text .meets-accepted m; summary = refl; rule = r; allowed = a }
 
 -- ---- no verdict of a session is a refusal of the file or of a setting
 
@@ -85,15 +85,15 @@ reports (ended (File r)) h = let n = refusal-number r in early (refusalTold r .n
 reports (ended (Mismatch N)) h = refl
 reports (ended (Halted r)) h = refl
 
-module _ (S : Settings) {text : List ℕ} (m : Meets text) (a : Allowed (termsOf S)) where
+module _ (S : Settings) {kept : ℕ} (r : Keeps (S .rule) kept) {text : List ℕ} (m : Meets text) (a : Allowed (keeping kept S)) where
   abbrev T : Terms
-  T = termsOf S
+  T = keeping kept S
 
   abbrev file : Summary
   file = checkOf text .summary
 
   pub course-of : (rs : List Reply) → CourseExactly T file text rs
-  course-of rs = course-exactly T file text (a .some) (facts (premises S m a) .few) rs
+  course-of rs = course-exactly T file text (a .some) (facts (premises S r m a) .few) rs
 
   -- of any run that the guide gives
   by-guide : (rs : List Reply) {out : List Request} {last : Handed} → Guided T file text rs out last → Demand2 T m rs out last
@@ -112,7 +112,7 @@ module _ (S : Settings) {text : List ℕ} (m : Meets text) (a : Allowed (termsOf
     Holds start = Demand2 T m rs (sent text start rs) (after text start rs)
 
     pub demand2-start : Holds (startOf S file)
-    demand2-start = by-guide rs (guided-start (premises S m a) rs)
+    demand2-start = by-guide rs (guided-start (premises S r m a) rs)
 
     pub demand2 : Holds (beginOf S text)
-    demand2 = by-guide rs (guided (premises S m a) rs)
+    demand2 = by-guide rs (guided (premises S r m a) rs)

@@ -35,9 +35,9 @@ use Rattle.guide.proofs.GateOpens.{reached, gate-next}
 use Rattle.session.specs.declared.Settings.{Settings}
 use Rattle.session.specs.declared.Answer.the-variants.{BadState}
 use Rattle.session.specs.Begin.{newPosition, freshOf, startOf, beginOf}
-use Rattle.session.specs.Terms.{termsOf}
+use Rattle.session.specs.Terms.{keeping}
 use Rattle.demands.specs.Runs.{sent, after}
-use Rattle.demands.specs.Headline.{Allowed, Answered, allAsTheyStand, burn, targetIn}
+use Rattle.demands.specs.Headline.{Allowed, Keeps, Answered, allAsTheyStand, burn, targetIn}
 use Rattle.demands.specs.Headline as head
 use Rattle.demands.specs.Guided.{Premises, answerFor}
 use Rattle.demands.specs.Demands.{contentIn, Demand3}
@@ -46,7 +46,7 @@ use Rattle.demands.proofs.Guided.{begin-is, run, guided}
 use Rattle.demands.proofs.BurnIsLast.{burn-is-last}
 use Rattle.demands.proofs.ContentIs.{lines-are, target-is, content-is}
 use Rattle.demands.proofs.BurnSpelled.{mem-spelled}
-use Rattle.demands.proofs.Headline.{may-burn, spells, headline}
+use Rattle.demands.proofs.Headline.{may-burn, spells, burn-allowed}
 use Rattle.demands.proofs.Demand2.{premises, course-of}
 
 -- the guide never says 15
@@ -84,15 +84,15 @@ lines-answered i (l ∷ ls) rest (b ∷ before) q _ e (head.more _ _ r rs w j a)
     let k = lines-answered (i + 1) ls rest before q rs more a in
     (k .0, rw (same, good-is j) (ap (λ (l : List Request). b ∷ l) (k .1)))
 
-module _ (S : Settings) {text : List ℕ} (m : Meets text) (a : Allowed (termsOf S)) (rs : List Reply) where
+module _ (S : Settings) {kept : ℕ} (r : Keeps (S .rule) kept) {text : List ℕ} (m : Meets text) (a : Allowed (keeping kept S)) (rs : List Reply) where
   abbrev T : Terms
-  T = termsOf S
+  T = keeping kept S
 
   abbrev file : Summary
   file = checkOf text .summary
 
-  abbrev P : Premises S text file
-  P = premises S m a
+  abbrev P : Premises S kept text file
+  P = premises S r m a
 
   abbrev list : List Asked
   list = requests (guideFor T file text) rs
@@ -169,7 +169,7 @@ module _ (S : Settings) {text : List ℕ} (m : Meets text) (a : Allowed (termsOf
       let b = begins (guideFor T file text) rs later in
       let e : bare (requests (guideFor T file text) (rs ++ later)) ≡ out ++ bare (b .0)
       = ap bare (b .1) ∙ (bare-append list (b .0) ∙ ap (λ (l : List Request). l ++ bare (b .0)) (sym (guided P rs .sameRequests))) in
-      (_, bare (b .0), rw (content-is m, e) at (course-of S m a (rs ++ later) .goes))
+      (_, bare (b .0), rw (content-is m, e) at (course-of S r m a (rs ++ later) .goes))
 
   length-is : length out ≡ length list
   length-is = ap length (guided P rs .sameRequests) ∙ bare-length list
@@ -184,7 +184,7 @@ module _ (S : Settings) {text : List ℕ} (m : Meets text) (a : Allowed (termsOf
         unless = unless;
         next = next;
         once = (burn-is-last m .0, burn-is-last m .1, once);
-        never = headline S text rs;
+        never = burn-allowed P rs;
         counts = rw length-is (rw (begin-is P) (omega (arith, run P rs .counting)));
         reports = reports;
         bound = rw length-is (omega (arith, bounded T file text (facts P) rs, says .lines, says .configs));

@@ -1,5 +1,5 @@
 -- Every reply in form ends in one of three exits: a request is put out, a verdict, or the refusal of the state where a write
--- line is due and what stands at the held place may not go out. Assumes nothing.
+-- line is due and what stands at the held place may not go out. The rule that is held is known, since 15 comes first. Assumes nothing.
 use Prim.Native.Nat.{ℕ, _+_}
 use mathlib.Core.Path.{_≡_, refl}
 use mathlib.Core.Bool.{Bool, true, false, cond}
@@ -37,6 +37,7 @@ use Rattle.session.specs.Lines.{duePutOf, tookOf, dueOf, putLineOf, lineDoneOf}
 use Rattle.session.specs.Stages.{counterDoneOf, identityDoneOf, flagDoneOf, fitDoneOf, fitHeld, revisionDoneOf, pollAgainOf, polledDoneOf, statusDoneOf, restoreOf, banksDoneOf, restoreNextOf, crcDoneOf, withRevision}
 use Rattle.session.specs.Reply.{followOf}
 use Rattle.demands.specs.Exactly.{Due, first, later, Unfit, noLine, early, late}
+use Rattle.demands.specs.Headline.{Keeps}
 use Rattle.session.specs.Terms.{keptOf}
 
 -- of a choice, by both its sides
@@ -62,7 +63,7 @@ kept-burned : (s : Session) (p : Position) (b : Bool) → (s .burned ≡ true �
 unfolding withPosition withBurned
 kept-burned s p b f = record { settings = refl; file = refl; sent = refl; burned = f }
 
-module _ (text : List ℕ) (s : Session) (word : ℕ) (P : Awaited → Handed → Type 0)
+module _ (text : List ℕ) (s : Session) (held : Keeps (s .settings .rule) (keptOf (s .settings .rule))) (word : ℕ) (P : Awaited → Handed → Type 0)
     (puts : (g : Awaited) (t : Session) → Kept s t → (next : Awaited) (q : Request) → P g (putOf t next q)) (ends : (g : Awaited) (v : Verdict) → P g (endOf s v))
     (bads : (g : Awaited) (n : LineNumber) → Due s word g n → Unfit text s n → P g (badOf s)) where
   took-every : (g : Awaited) (n : LineNumber) → Due s word g n → (l : Line) (next : ℕ) → nextLine n (s .position .place) text ≡ Took l next
@@ -91,7 +92,9 @@ module _ (text : List ℕ) (s : Session) (word : ℕ) (P : Awaited → Handed �
 
   fit-every : (f : Fit) → fitHeld s word ≡ f → P RevisionRead (fitDoneOf text s f)
   unfolding fitDoneOf fitHeld
-  fit-every Matched e = line-every RevisionRead _ (first (judged-exactly (targetOf (s .file)) (keptOf (s .settings)) (withRevision (s .position .read) word) .matches e))
+  fit-every Matched e =
+      line-every RevisionRead _
+      (first _ held (judged-exactly (targetOf (s .file)) (keptOf (s .settings .rule)) (withRevision (s .position .read) word) .matches e))
   fit-every (Fails r) e = ends RevisionRead (Halted r)
 
   polled-every : (p : Polled) → P StatusRead (polledDoneOf s p)

@@ -27,6 +27,7 @@ use Rattle.session.proofs.Laws.{when-ended, when-open}
 use Rattle.demands.proofs.Spoiled.{spoiled-refused, refused-spoiled}
 use Rattle.demands.proofs.EveryStep.{Kept, step-every}
 use Rattle.demands.proofs.Refusing.{due-bad}
+use Rattle.demands.proofs.SettingsSay.{held-rule}
 
 module _ (text : List ℕ) (s : Session) (kind : ℕ) (bs : List ℕ) where
   -- what is shown of what a call hands back
@@ -47,16 +48,16 @@ module _ (text : List ℕ) (s : Session) (kind : ℕ) (bs : List ℕ) where
   unfolding badOf noRequest eight
   bad-shown g f = record { only = λ e. f; leaves = λ e. (refl, refl); ends = λ v e. over-bad (sym e) }
 
-  replied-shown : (g : Awaited) (f : ReplyForm) → formOf (s .hand) kind bs ≡ f → Shown g (repliedOf text s g f)
+  replied-shown : soundOf s ≡ true → (g : Awaited) (f : ReplyForm) → formOf (s .hand) kind bs ≡ f → Shown g (repliedOf text s g f)
   unfolding repliedOf
-  replied-shown g Unanswered e = end-shown g _
-  replied-shown g Misshapen e = end-shown g _
-  replied-shown g Miscoded e = end-shown g _
-  replied-shown g (Good word) e =
-      step-every text s word Shown put-shown end-shown (λ h n d u. bad-shown h (due word n e d u)) g
+  replied-shown ok g Unanswered e = end-shown g _
+  replied-shown ok g Misshapen e = end-shown g _
+  replied-shown ok g Miscoded e = end-shown g _
+  replied-shown ok g (Good word) e =
+      step-every text s (held-rule s ok) word Shown put-shown end-shown (λ h n d u. bad-shown h (due word n e d u)) g
 
   open-shown : (g : Awaited) (b : Bool) → soundOf s ≡ b → Shown g (cond b (repliedOf text s g (formOf (s .hand) kind bs)) (badOf s))
-  open-shown g true e = replied-shown g _ refl
+  open-shown g true e = replied-shown e g _ refl
   open-shown g false e = bad-shown g (before (refused-spoiled s e))
 
   stage-shown : (g : Awaited) → s .stage ≡ Open g → Shown g (replyOf text s kind bs)

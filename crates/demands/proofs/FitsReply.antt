@@ -30,7 +30,7 @@ use Rattle.demands.proofs.WhereItStands.{handOf, Lasting, Bounds, line,
 use Rattle.demands.proofs.FitsCall.{rootOf, sizeOf, burnOf, Fits, end-fits, hear-fits, moved-fits, other-fits, cond-fits}
 use Rattle.demands.proofs.FitsStep3.{next-line-fits, gate-fits}
 use Rattle.demands.proofs.FitsSteps4to6.{polled-fits, first-restore-fits, crc-fits}
-use Rattle.session.specs.Terms.{termsOf}
+use Rattle.demands.proofs.RestOfGuide.{termsOf}
 use Rattle.demands.specs.Guided.{answerFor}
 
 -- the plan behind a reply

@@ -26,7 +26,7 @@ use Rattle.session.specs.Stages.{fitDoneOf}
 use Rattle.demands.proofs.RestOfGuide
 use Rattle.demands.proofs.WhereItStands.{Lasting, Bounds, Fresh, line, config, line-out, status-at}
 use Rattle.demands.proofs.FitsCall.{Fits, end-fits, put-fits, other-fits}
-use Rattle.session.specs.Terms.{termsOf}
+use Rattle.demands.proofs.RestOfGuide.{termsOf}
 
 module _ (text : List ℕ) (ls : List Line) where
   line-fits : (s : Session) (i : ℕ) (l : Line) (more : List Line) → Holds text (s .position .place) i (l ∷ more) → BurnLast (l ∷ more)

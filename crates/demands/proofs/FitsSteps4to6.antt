@@ -22,7 +22,7 @@ use Rattle.session.specs.Stages.{atPolls, atConfig, pollAgainOf, polledDoneOf, 
 use Rattle.demands.proofs.RestOfGuide
 use Rattle.demands.proofs.WhereItStands.{Lasting, Bounds, config, status-read, banks-at, restore}
 use Rattle.demands.proofs.FitsCall.{Fits, end-fits, moved-fits, other-fits, cond-fits}
-use Rattle.session.specs.Terms.{termsOf}
+use Rattle.demands.proofs.RestOfGuide.{termsOf}
 
 module _ (text : List ℕ) (ls : List Line) (s : Session) (K : Lasting text ls (s .settings) (s .file)) where
   -- ---- step 4

@@ -1,5 +1,5 @@
 -- Each request and each answer are what the guide's list gives for the replies so far. Assumes nothing.
-use mathlib.Core.Path.{_≡_}
+use mathlib.Core.Path.{_≡_, subst}
 use mathlib.Core.List.{List}
 use Prim.Native.Nat.{ℕ}
 use Rattle.guide.specs.Plan.{Reply}
@@ -11,20 +11,21 @@ use Rattle.demands.specs.Guided.{Premises, Guided}
 use Rattle.demands.proofs.PremisesGive.{taken, lasting, facts}
 use Rattle.demands.proofs.SessionIsGuide.{Along, before, start-along, Room}
 use native.Mathlib.Omega.{arith}
-use Rattle.session.specs.Terms.{termsOf}
+use Rattle.session.specs.Terms.{keeping}
+use Rattle.demands.proofs.RestOfGuide.{termsOf}
 use Rattle.guide.specs.Statements.{Bounded}
 use Rattle.guide.proofs.Bounded.{bounded}
 use Rattle.summary.specs.declared.Summary.{Summary}
 use Rattle.session.specs.declared.Session.{Session}
 use Rattle.session.specs.declared.Handed.{Handed}
 use Rattle.session.specs.Sound.{mostSent}
-use Rattle.demands.proofs.SettingsSay.{is-allowed}
+use Rattle.demands.proofs.SettingsSay.{kept-is, is-allowed}
 
-module _ {S : Settings} {text : List ℕ} {file : Summary} (P : Premises S text file) where
+module _ {S : Settings} {kept : ℕ} {text : List ℕ} {file : Summary} (P : Premises S kept text file) where
   -- `begin` starts where the text's own summary does
   pub begin-is : beginOf S text ≡ startOf S file
   unfolding beginOf checkedOf answeredOf
-  begin-is = rw (is-allowed S (P .allowed), taken P, P .summary)
+  begin-is = rw (is-allowed S (P .rule) (P .allowed), taken P, P .summary)
 
   -- before the first request
   abbrev pub first : Session
@@ -35,13 +36,16 @@ module _ {S : Settings} {text : List ℕ} {file : Summary} (P : Premises S text 
   unfolding freshOf newPosition mostSent Bounded
   room rs = omega (arith, bounded (termsOf S) file text (facts P) rs)
 
-  pub run : (rs : List Reply) → Along text (writeLinesOf text) first (startOf S file) (guideFor (termsOf S) file text) rs
+  -- with the places that the settings' rule keeps free
+  pub run : (rs : List Reply) → Along text (writeLinesOf text) first (startOf S file) (guideFor (keeping kept S) file text) rs
   unfolding guideFor
-  run rs = start-along text (writeLinesOf text) S file (lasting P) room rs
+  run rs =
+      subst (λ k. Along text (writeLinesOf text) first (startOf S file) (guideFor (keeping k S) file text) rs) (kept-is (P .rule))
+      (start-along text (writeLinesOf text) S file (lasting P) room rs)
 
   module _ (rs : List Reply) where
     abbrev Holds : Handed → Type 0
-    Holds start = Guided (termsOf S) file text rs (sent text start rs) (after text start rs)
+    Holds start = Guided (keeping kept S) file text rs (sent text start rs) (after text start rs)
 
     pub guided-start : Holds (startOf S file)
     guided-start = let a = run rs in record { sameRequests = a .sends; sameAnswer = a .says }

@@ -31,25 +31,26 @@ use Rattle.session.specs.Sound.{allowedOf}
 use Rattle.session.specs.Begin.{answeredOf, checkedOf, beginOf}
 use Rattle.demands.specs.Runs.{sent}
 use Rattle.demands.specs.Guided.{Premises}
-use Rattle.demands.specs.Headline.{targetIn, asItStands, allAsTheyStand, burn, MayBurn, Headline}
+use Rattle.demands.specs.Headline.{Keeps, targetIn, asItStands, allAsTheyStand, burn, MayBurn, Headline}
+use Rattle.demands.specs.Rules.{SessionHeadline}
 use Rattle.demands.proofs.PremisesGive.{meets, facts}
 use Rattle.demands.proofs.Guided.{guided}
 use Rattle.guide.proofs.CourseIsGuide.{bare-append}
-use Rattle.demands.proofs.SettingsSay.{allowed-is, not-reserved, refused-sends}
+use Rattle.demands.proofs.SettingsSay.{allowed-is, rule-is, not-reserved, refused-sends}
 use Rattle.demands.proofs.BurnIsLast.{last-burns}
 use Rattle.demands.proofs.ContentIs.{spelled-drop, formed, target-is}
 use Rattle.demands.proofs.BurnReached.{marked, marked-bare, Reach, reach}
 use Rattle.demands.proofs.BurnSpelled.{spellings-append, opening-none, burn-spelled, mem-spelled, said-in-form, guide-made}
-use Rattle.session.specs.Terms.{termsOf}
+use Rattle.session.specs.Terms.{keptOf, keeping}
 use Rattle.guide.specs.Terms.{Terms}
 use Rattle.guide.proofs.BurnsOnce.{burns-once}
 use Rattle.guide.proofs.FileFacts.{lines-are, some-line}
 use Rattle.guide.proofs.MarksTell.{spelled-once}
 use Rattle.summary.specs.declared.Summary.{Summary}
 
-module _ {S : Settings} {text : List ℕ} {file : Summary} (P : Premises S text file) (rs : List Reply) where
+module _ {S : Settings} {kept : ℕ} {text : List ℕ} {file : Summary} (P : Premises S kept text file) (rs : List Reply) where
   abbrev T : Terms
-  T = termsOf S
+  T = keeping kept S
 
   abbrev n : ℕ
   n = file .lines
@@ -75,7 +76,7 @@ module _ {S : Settings} {text : List ℕ} {file : Summary} (P : Premises S text 
 
   pub spells : spellings list ≡ burnsIn n list
   unfolding SpelledOnce
-  spells = spelled-once T file text (facts P) rs (not-reserved S (P .allowed))
+  spells = spelled-once T file text (facts P) rs (not-reserved T (P .allowed))
 
   module _ (some : 1 ≤ burnsIn n list) where
     was-matched : Matched T (targetOf file) rs
@@ -168,12 +169,16 @@ module _ {S : Settings} {text : List ℕ} {file : Summary} (P : Premises S text 
 no-burn : {A : Type 0} {qs : List Request} → qs ≡ [] → List·Memᴰ burn qs → A
 no-burn e b = absurd (List·Memᴰ·not-nil (rw e at b))
 
-pub headline : (S : Settings) (text : List ℕ) (rs : List Reply) → Headline (termsOf S) text rs (sent text (beginOf S text) rs)
-unfolding Headline beginOf checkedOf answeredOf
+pub headline : (S : Settings) (text : List ℕ) (rs : List Reply) → SessionHeadline S text rs
+unfolding SessionHeadline Headline beginOf checkedOf answeredOf
 headline S text rs b =
     split (allowedOf S) (λ e. by-file e (checkOf text .answer) refl)
     (λ e. no-burn (rw e (refused-sends S text Setting rs)) b)
   where
-    by-file : allowedOf S ≡ true → (a : FileAnswer) → checkOf text .answer ≡ a → MayBurn (termsOf S) text rs (sent text (beginOf S text) rs)
-    by-file e Accepted h = burn-allowed (record { accepted = ap (λ a. answerTold a .number) h; summary = refl; allowed = allowed-is S e }) rs b
+    by-file : allowedOf S ≡ true → (a : FileAnswer) → checkOf text .answer ≡ a
+        → (kept : ℕ) × Keeps (S .rule) kept × MayBurn (keeping kept S) text rs (sent text (beginOf S text) rs)
+    by-file e Accepted h =
+        let P : Premises S (keptOf (S .rule)) text (checkOf text .summary)
+        = record { accepted = ap (λ a. answerTold a .number) h; summary = refl; rule = rule-is S e; allowed = allowed-is S e (keptOf (S .rule)) } in
+        (keptOf (S .rule), rule-is S e, burn-allowed P rs b)
     by-file e (Refused r) h = no-burn (rw (e, h) (refused-sends S text (File r) rs)) b

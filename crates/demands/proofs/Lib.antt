@@ -19,6 +19,9 @@ pub mod Demand3
 pub mod RepliesInForm
 pub mod FittingDevice
 pub mod CanEnd
+pub mod SessionTheorem
+pub mod PlacesExactly
+pub mod RulesAgree
 pub mod Cases
 pub mod SettingsOut
 pub mod Spoiled

@@ -62,7 +62,7 @@ module _ (text : List ℕ) (taken : checkOf text .answer ≡ Accepted) where
         ids-sound (file .ids) (file .configs) (f .ids),
       )
 
-module _ {S : Settings} {text : List ℕ} {file : Summary} (P : Premises S text file) where
+module _ {S : Settings} {kept : ℕ} {text : List ℕ} {file : Summary} (P : Premises S kept text file) where
   pub taken : checkOf text .answer ≡ Accepted
   taken = zero-accepts (checkOf text .answer) (P .accepted)
 
@@ -83,7 +83,7 @@ module _ {S : Settings} {text : List ℕ} {file : Summary} (P : Premises S text 
       let f : Sound file = rw (P .summary) (sound text taken) in
       let told : checkOf text .summary ≡ summaryOf text = summary-is text (sym (answer-is text) ∙ taken) in
       record {
-        allowed = is-allowed S (P .allowed);
+        allowed = is-allowed S (P .rule) (P .allowed);
         sound = rw (P .summary) (file-sound text taken);
         somePoll = P .allowed .some;
         someConfig = f .some;

@@ -19,7 +19,7 @@ use Rattle.session.specs.Stages.{fitHeld, fitDoneOf, revisionDoneOf, withRevisi
 use Rattle.session.specs.Reply.{followOf}
 use Rattle.demands.specs.Exactly.{Due, first, later, Unfit, noLine, early, late}
 use Rattle.guide.specs.Guide.{targetOf}
-use Rattle.session.specs.Terms.{keptOf}
+use Rattle.demands.proofs.SettingsSay.{kept-is}
 
 module _ (text : List ℕ) (s : Session) where
   noLine-bad : (n : LineNumber) (t : line.NextLine) → nextLine n (s .position .place) text ≡ t
@@ -45,6 +45,6 @@ module _ (text : List ℕ) (s : Session) where
 
   pub due-bad : (word : ℕ) (g : Awaited) (n : LineNumber) → Due s word g n → Unfit text s n → followOf text s g word ≡ badOf s
   unfolding followOf revisionDoneOf fitDoneOf fitHeld lineDoneOf
-  due-bad word g n (first f) u =
-      rw (judged-exactly (targetOf (s .file)) (keptOf (s .settings)) (withRevision (s .position .read) word) .passes f) (unfit-bad n u)
+  due-bad word g n (first kept k f) u =
+      rw (kept-is k, judged-exactly (targetOf (s .file)) kept (withRevision (s .position .read) word) .passes f) (unfit-bad n u)
   due-bad word g n (later h) u = rw (lt-ltb (s .position .line .0) (s .file .lines) h) (unfit-bad n u)

@@ -17,6 +17,12 @@ use Rattle.guide.specs.Judged.{cleared, fitOf, banksRight}
 use Rattle.guide.specs.Guide.{put, write, read, step1, gate, step2, lines, polls, step4, step5, idIn, crcIn, verify, step6, guide, targetOf}
 use Rattle.guide.specs.Requests.{lineRequest}
 use Rattle.guide.specs.Terms.{Terms}
+use Rattle.session.specs.declared.Settings.{Settings}
+use Rattle.session.specs.Terms.{keptOf, keeping}
+
+-- the terms that a session goes by, with the places that its definition of the rule keeps free
+abbrev pub termsOf : Settings → Terms
+termsOf S = keeping (keptOf (S .rule)) S
 
 module _ (T : Terms) (file : Summary) (ls : List Line) where
   -- step 6, for configuration N, with so many left behind it

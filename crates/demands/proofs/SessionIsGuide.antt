@@ -28,7 +28,7 @@ use Rattle.demands.proofs.RestOfGuide
 use Rattle.demands.proofs.WhereItStands.{Lasting, capture-at, counter-at}
 use Rattle.demands.proofs.FitsCall.{rootOf, sizeOf, burnOf, Fits, other-fits, cond-fits}
 use Rattle.demands.proofs.FitsReply.{onward, reply-fits}
-use Rattle.session.specs.Terms.{termsOf}
+use Rattle.demands.proofs.RestOfGuide.{termsOf}
 use Rattle.demands.specs.Guided.{answerFor}
 
 -- one request more, the burn or not

@@ -20,7 +20,7 @@ use Rattle.session.specs.declared.Awaited.{Awaited}
 use Rattle.session.specs.declared.Awaited.the-variants.{CaptureAt, CaptureRead, CaptureWrite, CaptureApply, CounterAt, CounterRead, IdentityRead, FlagAt, FlagRead, RevisionRead, LineOut, StatusAt, StatusRead, BanksAt, BanksRead, Restore, CrcAt, CrcRead}
 use Rattle.session.specs.Sound.{allowedOf, fileSound}
 use Rattle.demands.proofs.RestOfGuide
-use Rattle.session.specs.Terms.{termsOf}
+use Rattle.demands.proofs.RestOfGuide.{termsOf}
 
 -- the request in hand of a plan, none where it is done
 unfoldable pub handOf : Plan → Request

@@ -17,10 +17,10 @@ use Rattle.guide.proofs.Every.{behind}
 use Rattle.guide.proofs.CourseIsGuide.{bare-append}
 use Rattle.guide.proofs.StepOneClears.{writes-back}
 use Rattle.session.specs.declared.Settings.{Settings}
-use Rattle.session.specs.Terms.{termsOf}
+use Rattle.session.specs.Terms.{keeping}
 use Rattle.session.specs.Begin.{beginOf}
 use Rattle.demands.specs.Runs.{sent}
-use Rattle.demands.specs.Headline.{Allowed}
+use Rattle.demands.specs.Headline.{Allowed, Keeps}
 use Rattle.demands.specs.Asked.{WroteBack}
 use Rattle.demands.proofs.Guided.{guided}
 use Rattle.demands.proofs.Demand2.{premises}
@@ -54,12 +54,12 @@ module _ (rest : Plan) (w : ℕ) where
       let asked : bare (asksOf leads2) ≡ pointTo 0xA2 0x00 ∷ readData ∷ [] = asks-are leads2 in
       (next .0, ap bare (leads-requests leads2 h) ∙ (bare-append (asksOf leads2) (requests (write third from4) left) ∙ rw (asked, next .1)))
 
-pub wrote-back : (S : Settings) {text : List ℕ} → Meets text → Allowed (termsOf S) → (rs : List Reply)
-    → WroteBack (termsOf S) rs (sent text (beginOf S text) rs)
+pub wrote-back : (S : Settings) {kept : ℕ} → Keeps (S .rule) kept → {text : List ℕ} → Meets text → Allowed (keeping kept S) → (rs : List Reply)
+    → WroteBack (keeping kept S) rs (sent text (beginOf S text) rs)
 unfolding WroteBack guideFor guide
-wrote-back S {text} m a rs wanted w left small h =
-    let T = termsOf S in
+wrote-back S {kept} r {text} m a rs wanted w left small h =
+    let T = keeping kept S in
     let rest = step2 T (checkOf text .summary) (lines 5 (writeLinesOf text) (behind T (checkOf text .summary))) in
     let b = step1-writes rest w rs left h in
     let begun = ap (λ x. bare (requests (cond x (step1 rest) rest) rs)) wanted in
-    (third rest w, b .0, guided (premises S m a) rs .sameRequests ∙ (begun ∙ b .1), writes-back w small)
+    (third rest w, b .0, guided (premises S r m a) rs .sameRequests ∙ (begun ∙ b .1), writes-back w small)

@@ -30,11 +30,11 @@ use Rattle.session.specs.declared.Awaited.the-variants.{RevisionRead, LineOut}
 use Rattle.session.specs.declared.Answer.{Answer}
 use Rattle.session.specs.declared.Answer.the-variants.{Next, Over, BadState}
 use Rattle.session.specs.declared.Report.the-variants.{Is}
-use Rattle.session.specs.Terms.{keptOf}
 use Rattle.session.specs.Stages.{withRevision}
 use Rattle.session.specs.Reports.{reportOf}
 use Rattle.session.specs.Reply.{replyOf}
 use Rattle.session.specs.Begin.{beginOf}
+use Rattle.demands.specs.Headline.{Keeps}
 
 -- a request of zeros, written out
 abbrev pub zeros : Request
@@ -42,10 +42,11 @@ zeros = record { bytes = 0x00 ∷ 0x00 ∷ 0x00 ∷ 0x00 ∷ 0x00 ∷ 0x00 ∷ 0
 
 -- ---- settings
 
--- a setting that is out of its range, or a code of the guide's other commands
+-- a setting that is out of its range, a code of the guide's other commands, or a rule other than 1 or 2
 pub data SettingOut (S : Settings) : Type 0 where
   limit : ((1 ≤ S .limit) × (S .limit ≤ 10000) → ⊥) → SettingOut S
   restore : List·Memᴰ (S .restore) codes → SettingOut S
+  rule : (S .rule ≡ 1 → ⊥) → (S .rule ≡ 2 → ⊥) → SettingOut S
 
 -- ---- 15, before the reply is looked at
 
@@ -71,7 +72,8 @@ pub data Spoiled (s : Session) : Type 0 where
 
 -- line 5 is due when the AE reply came in form and none of 23 to 28 applies, and a later one while the line in hand is before n
 pub data Due (s : Session) (word : ℕ) : Awaited → LineNumber → Type 0 where
-  first : Fits (targetOf (s .file)) (keptOf (s .settings)) (withRevision (s .position .read) word) → Due s word RevisionRead (lineNumber 5)
+  first : (kept : ℕ) → Keeps (s .settings .rule) kept → Fits (targetOf (s .file)) kept (withRevision (s .position .read) word)
+      → Due s word RevisionRead (lineNumber 5)
   later : s .position .line .0 < s .file .lines → Due s word LineOut (lineNumber (s .position .line .0 + 1))
 
 -- the text from the held place is no write line, or the burn and not line n, or line n and not the burn

@@ -14,14 +14,16 @@ use Rattle.session.specs.declared.Settings.{Settings}
 use Rattle.session.specs.declared.Handed.{Handed}
 use Rattle.session.specs.declared.Answer.{Answer}
 use Rattle.session.specs.declared.Answer.the-variants.{Next, Over}
-use Rattle.session.specs.Terms.{termsOf}
-use Rattle.demands.specs.Headline.{Allowed}
+use Rattle.session.specs.Terms.{keeping}
+use Rattle.demands.specs.Headline.{Allowed, Keeps}
 
--- the checker's number of this text is 0, this is the summary that it hands back with it, and the settings are allowed
-pub record Premises (S : Settings) (text : List ℕ) (file : Summary) : Type 0 where
+-- the checker's number of this text is 0, this is the summary that it hands back with it, the settings' rule keeps so many places free,
+-- and the settings are allowed
+pub record Premises (S : Settings) (kept : ℕ) (text : List ℕ) (file : Summary) : Type 0 where
   pub accepted : answerTold (checkOf text .answer) .number ≡ 0
   pub summary : file ≡ checkOf text .summary
-  pub allowed : Allowed (termsOf S)
+  pub rule : Keeps (S .rule) kept
+  pub allowed : Allowed (keeping kept S)
 
 -- what a session answers where the guide is there
 unfoldable pub answerFor : Outcome → Answer

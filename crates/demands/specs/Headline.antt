@@ -39,6 +39,11 @@ pub record Allowed (T : Terms) : Type 0 where
   pub few : T .limit ≤ 10000
   pub code : List·Memᴰ (T .restore) codes → ⊥
 
+-- the device's places that a house rule keeps free: none under rule 1, two under rule 2, and there is no other rule (document 02, R-13)
+pub data Keeps : ℕ → ℕ → Type 0 where
+  rule1 : Keeps 1 0
+  rule2 : Keeps 2 2
+
 -- what a file asks of its device: the kind that its revision names, the identity of line 1, and a place for each configuration
 abbrev pub targetIn : {text : List ℕ} → Meets text → Target
 targetIn m =

@@ -4,3 +4,4 @@ pub mod Guided
 pub mod Demands
 pub mod Asked
 pub mod Exactly
+pub mod Rules

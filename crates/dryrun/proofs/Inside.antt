@@ -12,7 +12,7 @@ use Rattle.dryrun.specs.declared.Header.{Header}
 use Rattle.dryrun.specs.declared.Input.{Input}
 use Rattle.dryrun.specs.declared.Input.the-variants.{CutShort, TooLong, Whole}
 use Rattle.tape.specs.Replies.{wholeReplies}
-use Rattle.dryrun.specs.Parts.{fileLength, headerOf, inputOf}
+use Rattle.dryrun.specs.Parts.{fileAt, fileLength, headerOf, inputOf}
 
 -- a test that an input which is whole has passed
 must-not : {A : Type 0} (t : Bool) (x y : Input) (h : Header) → cond t x y ≡ Whole h → (x ≡ Whole h → A) → (t ≡ false → y ≡ Whole h → A) → A
@@ -25,16 +25,16 @@ cut h e = let y : _≡_ {A = ℕ} 0 1 = cc in absurd (let no : ⊥ = omega arith
 long : {A : Type 0} (h : Header) → TooLong ≡ Whole h → A
 long h e = let y : _≡_ {A = ℕ} 0 1 = cc in absurd (let no : ⊥ = omega arith in no)
 
-pub header-within : (s : List ℕ) (h : Header) → inputOf s ≡ Whole h → (8 ≤ h .behind) × (h .behind ≤ length s)
+pub header-within : (s : List ℕ) (h : Header) → inputOf s ≡ Whole h → (fileAt ≤ h .behind) × (h .behind ≤ length s)
 unfolding inputOf headerOf
 header-within s h e =
-    must-not (ltb (length s) 8) CutShort _ h e (cut h) (λ t1 e1.
+    must-not (ltb (length s) fileAt) CutShort _ h e (cut h) (λ t1 e1.
     must-not (ltb 65600 (fileLength s)) TooLong _ h e1 (long h) (λ t2 e2.
-    must-not (ltb (length s) (8 + fileLength s)) CutShort _ h e2 (cut h) (λ t3 e3.
-    must-not (ltb 200000 (length s - 8 - fileLength s)) TooLong _ h e3 (long h) (λ t4 e4.
-    split (wholeReplies (length s) s (8 + fileLength s))
+    must-not (ltb (length s) (fileAt + fileLength s)) CutShort _ h e2 (cut h) (λ t3 e3.
+    must-not (ltb 200000 (length s - fileAt - fileLength s)) TooLong _ h e3 (long h) (λ t4 e4.
+    split (wholeReplies (length s) s (fileAt + fileLength s))
     (λ t5.
     let z : Whole (headerOf s (fileLength s)) ≡ Whole h = rw t5 at e4 in
     let b : headerOf s (fileLength s) ≡ h = cc in
-    rw (sym b) (omega arith, ltb-false (length s) (8 + fileLength s) t3))
+    rw (sym b) (omega arith, ltb-false (length s) (fileAt + fileLength s) t3))
     (λ t5. cut h (rw t5 at e4))))))

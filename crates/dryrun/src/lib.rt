@@ -8,7 +8,10 @@ pub use lines::put_request;
 pub use parts::parse;
 use session::Settings;
 
-// What stands at the front of an input that is whole: the settings, and the place behind the file, which starts at 8.
+// Where the file starts: behind five bytes of settings and four of its length.
+pub const FILE_AT: usize = 9;
+
+// What stands at the front of an input that is whole: the settings, and the place behind the file.
 pub struct Header {
     pub settings: Settings,
     pub behind: usize,

@@ -1,5 +1,6 @@
-// The input: a byte whether step 1 is wanted, two bytes poll limit, a byte RESTORE_CFG code, four bytes file length, the file, then
-// replies as `tape` reads them. Numbers are lowest byte first.
+// The input: a byte whether step 1 is wanted, two bytes poll limit, a byte RESTORE_CFG code, a byte house rule, four bytes file length,
+// the file, then replies as `tape` reads them. Numbers are lowest byte first.
+use crate::FILE_AT;
 use crate::Header;
 use crate::Input;
 use session::Settings;
@@ -7,7 +8,7 @@ use tape::replies_whole;
 ghost use mathlib.Core.Path.{_≡_};
 ghost use Prim.Native.Nat.{_≤_};
 ghost use lib.ListN.{length};
-ghost use Rattle.dryrun.specs.Parts.{pair, fileLength, headerOf, inputOf};
+ghost use Rattle.dryrun.specs.Parts.{pair, fileAt, fileLength, headerOf, inputOf};
 
 // Two bytes, lowest first.
 fn two(a: u8, b: u8) -> u16
@@ -17,16 +18,16 @@ fn two(a: u8, b: u8) -> u16
 }
 
 fn file_length(input: &[u8]) -> usize
-    requires { ⌜ 8 ≤ length (now input) ⌝ }
+    requires { ⌜ fileAt ≤ length (now input) ⌝ }
     ensures { λ r. ⌜ r ≡ fileLength (now (input .entry)) ⌝ }
 {
-    let low = two(input[4], input[5]);
-    let high = two(input[6], input[7]);
+    let low = two(input[5], input[6]);
+    let high = two(input[7], input[8]);
     low as usize + 65536 * (high as usize)
 }
 
 fn header(input: &[u8], file: usize) -> Header
-    requires { ⌜ (8 ≤ length (now input)) × (file ≤ 65600) ⌝ }
+    requires { ⌜ (fileAt ≤ length (now input)) × (file ≤ 65600) ⌝ }
     ensures { λ r. ⌜ r ≡ headerOf (now (input .entry)) file ⌝ }
 {
     Header {
@@ -34,8 +35,9 @@ fn header(input: &[u8], file: usize) -> Header
             wanted: 0 < input[0],
             limit: two(input[1], input[2]),
             restore: input[3],
+            rule: input[4],
         },
-        behind: 8 + file,
+        behind: FILE_AT + file,
     }
 }
 
@@ -44,20 +46,20 @@ pub fn parse(input: &[u8]) -> Input
     ensures { λ r. ⌜ r ≡ inputOf (now (input .entry)) ⌝ }
 {
     let n = input.len();
-    if n < 8 {
+    if n < FILE_AT {
         return Input::CutShort;
     }
     let file = file_length(input);
     if 65600 < file {
         return Input::TooLong;
     }
-    if n < 8 + file {
+    if n < FILE_AT + file {
         return Input::CutShort;
     }
-    if 200000 < n - 8 - file {
+    if 200000 < n - FILE_AT - file {
         return Input::TooLong;
     }
-    if replies_whole(input, 8 + file) {
+    if replies_whole(input, FILE_AT + file) {
         Input::Whole(header(input, file))
     } else {
         Input::CutShort

@@ -32,8 +32,9 @@ blockReply command w =
 unfoldable pub valueOf : Regulator → ℕ
 valueOf d =
     cond (eqb (d .register) 0x0035) (d .counter)
+    (cond (eqb (d .register) 0xBD87) (d .flag)
     (cond (eqb (d .register) 0x007E) (cond (eqb (d .busy) 0) 1 0)
-    (cond (eqb (d .register) 0x007F) (d .banks) (cond (eqb (d .register) 0x0094) (d .crc) 0)))
+    (cond (eqb (d .register) 0x007F) (d .banks) (cond (eqb (d .register) 0x0094) (d .crc) 0))))
 
 -- identity and revision are blocks
 unfoldable pub readReply : Regulator → ℕ → Reply

@@ -90,6 +90,14 @@ fn counter_of(kind: Kind) -> u32 {
     }
 }
 
+// What a part shows at the flag once it has fewer than 28 places left.
+fn flag_of(kind: Kind) -> u32 {
+    match kind {
+        Kind::Legacy => 0,
+        Kind::Production => 0xFFFE0001,
+    }
+}
+
 // The CRC of the configuration with this identifier.
 fn crc_of(ids: [ConfigId; 8], crcs: [u32; 8], id: u8) -> u32 {
     for i in 0..8usize {
@@ -121,6 +129,7 @@ impl Regulator {
         Regulator {
             file: file,
             counter: counter_of(kind),
+            flag: 0,
             banks: banks_of(file.configs),
             register: 0,
             crc: 0,
@@ -132,6 +141,16 @@ impl Regulator {
         }
     }
 
+    // The same part with so many places left.
+    pub(crate) fn left_with(self, places: u32) -> Regulator {
+        let file = self.file;
+        let kind = file.kind;
+        let mut next = self;
+        next.counter = places;
+        next.flag = flag_of(kind);
+        next
+    }
+
     // What the register that was pointed to shows.
     fn value(self) -> u32
         ensures { λ r. ⌜ r ≡ valueOf self ⌝ }
@@ -139,6 +158,9 @@ impl Regulator {
         let register = self.register;
         if register == Bus::COUNTER {
             return self.counter;
+        }
+        if register == Bus::FLAG {
+            return self.flag;
         }
         if register == Bus::STATUS {
             if self.busy == 0 {

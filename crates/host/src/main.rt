@@ -1,4 +1,5 @@
-// A host's loop against a simulated regulator, for the file on standard input: one run that ends well, and two that do not.
+// A host's loop against a simulated regulator, for the file on standard input: one run that ends well, two that do not, and two that the
+// house rule decides.
 mod device;
 
 use libc::STDIN_FILENO;
@@ -14,6 +15,7 @@ struct Regulator {
     // What it holds once it is programmed.
     pub file: Summary,
     pub counter: u32,
+    pub flag: u32,
     pub banks: u32,
     // The register that was pointed to last, and the CRC of the configuration that was restored last.
     pub register: u16,
@@ -125,6 +127,7 @@ fn main() {
         wanted: true,
         limit: 10,
         restore: device::RESTORE,
+        rule: 1,
     };
     let checked = image::check(file);
     let summary = checked.summary;
@@ -142,4 +145,13 @@ fn main() {
     let mut strange = fitting;
     strange.counter = 29;
     say_run(program(settings, file, strange));
+
+    say(b"a regulator with one place more than the file needs, under rule 2\n");
+    let scarce = fitting.left_with(summary.configs as u32 + 1);
+    let mut keeping = settings;
+    keeping.rule = 2;
+    say_run(program(keeping, file, scarce));
+
+    say(b"the same regulator, under rule 1\n");
+    say_run(program(settings, file, scarce));
 }

@@ -7,7 +7,7 @@ use Rattle.session.specs.Begin.{beginOf}
 use Rattle.session.specs.Reply.{replyOf}
 use Rattle.dryrun.specs.declared.Input.{Input}
 use Rattle.dryrun.specs.declared.Input.the-variants.{CutShort, TooLong, Whole}
-use Rattle.dryrun.specs.Parts.{inputOf}
+use Rattle.dryrun.specs.Parts.{fileAt, inputOf}
 use Rattle.tape.specs.declared.Found.{Found}
 use Rattle.tape.specs.declared.Found.the-variants.{End, Reply, Part}
 use Rattle.tape.specs.Replies.{foundAt}
@@ -32,7 +32,7 @@ unfoldable pub sentBy : List ℕ → ℕ → Input → ℕ
 sentBy input n CutShort = 0
 sentBy input n TooLong = 0
 sentBy input n (Whole h) =
-    fedOf input (part input 8 (h .behind)) n (h .behind) (beginOf (h .settings) (part input 8 (h .behind)) .session) .sent
+    fedOf input (part input fileAt (h .behind)) n (h .behind) (beginOf (h .settings) (part input fileAt (h .behind)) .session) .sent
 
 unfoldable pub sentAfter : List ℕ → ℕ → ℕ
 sentAfter input n = sentBy input n (inputOf input)

@@ -1,4 +1,5 @@
 // Entries for bench/ alone: functions of the delivery that C or Rust could not call by themselves. Nothing delivered uses them.
+use dryrun::FILE_AT;
 use dryrun::Input;
 use session::Session;
 use tape::Found;
@@ -49,7 +50,7 @@ pub extern "C" fn measured_replies(input: &[u8], replies: u32) -> u32
         Input::Whole(header) => {
             let settings = header.settings;
             let behind = header.behind;
-            let file = &input[8..behind];
+            let file = &input[FILE_AT..behind];
             let begun = settings.begin(file);
             let s = fed(begun.session, input, file, behind, replies);
             s.sent

@@ -1,6 +1,7 @@
 // A dry run: what a station would send for the settings, the file and the replies on standard input, and how the session stands.
 // Each line that it writes is made by `dryrun`, and each request and verdict by `session`.
 use bus::Request;
+use dryrun::FILE_AT;
 use dryrun::Input;
 use libc::STDIN_FILENO;
 use libc::STDOUT_FILENO;
@@ -53,7 +54,7 @@ fn run(settings: Settings, input: &[u8], file: &[u8], behind: usize) {
 
 fn main() {
     // One byte more than there is room for, so that a longer input is seen to be longer.
-    let mut space = [0u8; 265609];
+    let mut space = [0u8; 265610];
     let n = io::read_full(STDIN_FILENO, &mut space);
     let input = &space[..n];
     match dryrun::parse(input) {
@@ -66,7 +67,7 @@ fn main() {
         Input::Whole(header) => {
             let settings = header.settings;
             let behind = header.behind;
-            run(settings, input, &input[8..behind], behind);
+            run(settings, input, &input[FILE_AT..behind], behind);
         }
     }
 }

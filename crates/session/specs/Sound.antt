@@ -17,9 +17,13 @@ unfoldable pub all : List Bool → Bool
 all [] = true
 all (b ∷ bs) = cond b (all bs) false
 
--- poll limit 1 to 10,000; RESTORE_CFG is none of the six other commands
+-- there are house rules 1 and 2 (document 02, R-13)
+unfoldable pub knownRule : ℕ → Bool
+knownRule rule = cond (eqb rule 1) true (eqb rule 2)
+
+-- poll limit 1 to 10,000; RESTORE_CFG is none of the six other commands; the house rule
 unfoldable pub settingTests : Settings → List Bool
-settingTests S = leb 1 (S .limit) ∷ leb (S .limit) 10000 ∷ not (reserved (S .restore)) ∷ []
+settingTests S = leb 1 (S .limit) ∷ leb (S .limit) 10000 ∷ not (reserved (S .restore)) ∷ knownRule (S .rule) ∷ []
 
 unfoldable pub allowedOf : Settings → Bool
 allowedOf S = all (settingTests S)

@@ -67,7 +67,7 @@ fitDoneOf text s Matched = putLineOf text s firstLine
 fitDoneOf text s (Fails r) = endOf s (Halted r)
 
 unfoldable pub fitHeld : Session → ℕ → Fit
-fitHeld s revision = fitOf (targetOf (s .file)) (keptOf (s .settings)) (withRevision (s .position .read) revision)
+fitHeld s revision = fitOf (targetOf (s .file)) (keptOf (s .settings .rule)) (withRevision (s .position .read) revision)
 
 unfoldable pub revisionDoneOf : List ℕ → Session → ℕ → Handed
 revisionDoneOf text s w = fitDoneOf text s (fitHeld s w)

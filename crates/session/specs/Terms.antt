@@ -1,11 +1,14 @@
--- The guide's terms by the settings (document 01, "The session"). Assumes nothing.
+-- The guide's terms by the settings (document 01, "The session"; document 02, R-13). Assumes nothing.
 use Prim.Native.Nat.{ℕ}
+use mathlib.Core.Bool.{cond}
+use lib.Dec.{eqb}
 use Rattle.guide.specs.Terms.{Terms}
 use Rattle.session.specs.declared.Settings.{Settings}
 
--- no place of the device is kept free
-abbrev pub keptOf : Settings → ℕ
-keptOf S = 0
+-- the device's places that a house rule keeps free: two under rule 2, else none
+unfoldable pub keptOf : ℕ → ℕ
+keptOf rule = cond (eqb rule 2) 2 0
 
-abbrev pub termsOf : Settings → Terms
-termsOf S = record { wanted = S .wanted; limit = S .limit; restore = S .restore; kept = keptOf S }
+-- where so many places are kept free
+abbrev pub keeping : ℕ → Settings → Terms
+keeping kept S = record { wanted = S .wanted; limit = S .limit; restore = S .restore; kept = kept }

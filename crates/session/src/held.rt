@@ -7,10 +7,16 @@ use summary::Summary;
 ghost use mathlib.Core.Path.{_≡_};
 ghost use Prim.Native.Nat.{_<_};
 ghost use Rattle.session.specs.Terms.{keptOf};
-ghost use Rattle.session.specs.Sound.{allowedOf, idsTo, fileSound, heldSound, soundOf};
+ghost use Rattle.session.specs.Sound.{knownRule, allowedOf, idsTo, fileSound, heldSound, soundOf};
+
+fn known_rule(rule: u8) -> bool
+    ensures { λ r. ⌜ r ≡ knownRule rule ⌝ }
+{
+    if rule == 1 { true } else { rule == 2 }
+}
 
 impl Settings {
-    // Poll limit 1 to 10,000; RESTORE_CFG is none of the six other commands.
+    // Poll limit 1 to 10,000; RESTORE_CFG is none of the six other commands; house rule 1 or 2.
     pub fn allowed(self) -> bool
         ensures { λ r. ⌜ r ≡ allowedOf self ⌝ }
     {
@@ -23,15 +29,15 @@ impl Settings {
         if Bus::reserved(self.restore) {
             false
         } else {
-            true
+            known_rule(self.rule)
         }
     }
 
-    // How many of the device's places are kept free.
+    // How many of the device's places are kept free for field service.
     pub(crate) fn kept(self) -> u8
-        ensures { λ r. ⌜ r ≡ keptOf self ⌝ }
+        ensures { λ r. ⌜ r ≡ keptOf (self .rule) ⌝ }
     {
-        0
+        if self.rule == 2 { 2 } else { 0 }
     }
 }
 

@@ -22,6 +22,8 @@ pub struct Settings {
     pub limit: u16,
     // The RESTORE_CFG command code.
     pub restore: u8,
+    // The house rule, 1 or 2: how many of the device's places are kept free for field service (document 02, R-13).
+    pub rule: u8,
 }
 
 // The request whose reply is awaited, in the order of the six steps.

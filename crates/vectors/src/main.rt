@@ -24,8 +24,9 @@ fn say_kind(kind: Kind) {
     }
 }
 
-// The kind wanted, or what 23 to 28 say of a file of this kind with one configuration whose identity and revision are right.
-fn judge(kind: Kind, counter: u32, flag: u32) {
+// The kind wanted, or what 23 to 28 say of a file of this kind with one configuration whose identity and revision are right, where so many
+// places are kept free.
+fn judge(kind: Kind, kept: u8, counter: u32, flag: u32) {
     let target = Target {
         kind: kind,
         identity: 0x49D28100,
@@ -37,7 +38,7 @@ fn judge(kind: Kind, counter: u32, flag: u32) {
         flag: flag,
         revision: 0x06000000,
     };
-    let fit = Fit::of(target, 0, read);
+    let fit = Fit::of(target, kept, read);
     match fit {
         Fit::Fails(reason) => say_number(reason.number()),
         Fit::Matched => {
@@ -48,6 +49,20 @@ fn judge(kind: Kind, counter: u32, flag: u32) {
             }
         }
     }
+}
+
+// Document 02, R-13: with two places kept free, k + 2 may not be more than the counter, and nothing else is judged otherwise.
+fn kept_free() {
+    say(b"k = 1, two kept, counter 2, flag 0, legacy file: ");
+    judge(Kind::Legacy, 2, 2, 0);
+    say(b"k = 1, two kept, counter 3, flag 0, legacy file: ");
+    judge(Kind::Legacy, 2, 3, 0);
+    say(b"k = 1, two kept, counter 2, flag FFFE0001, legacy file: ");
+    judge(Kind::Legacy, 2, 2, 0xFFFE0001);
+    say(b"two kept, counter 28, flag 0: ");
+    judge(Kind::Production, 2, 28, 0);
+    say(b"two kept, counter 29: ");
+    judge(Kind::Production, 2, 29, 0);
 }
 
 fn judge_status(status: u32) {
@@ -75,15 +90,16 @@ fn count(kind: Kind, lines: u32) {
 
 fn main() {
     say(b"counter 27, flag 0: ");
-    judge(Kind::Legacy, 27, 0);
+    judge(Kind::Legacy, 0, 27, 0);
     say(b"counter 28, flag 0: ");
-    judge(Kind::Production, 28, 0);
+    judge(Kind::Production, 0, 28, 0);
     say(b"counter 27, flag 1: ");
-    judge(Kind::Legacy, 27, 1);
+    judge(Kind::Legacy, 0, 27, 1);
     say(b"counter 29: ");
-    judge(Kind::Legacy, 29, 0);
+    judge(Kind::Legacy, 0, 29, 0);
     say(b"counter 0, flag 0, legacy file: ");
-    judge(Kind::Legacy, 0, 0);
+    judge(Kind::Legacy, 0, 0, 0);
+    kept_free();
     say(b"status 41: ");
     judge_status(0x41);
     say(b"status 09: ");

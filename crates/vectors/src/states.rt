@@ -25,6 +25,13 @@ fn held_settings(begun: Session, file: &[u8]) {
     s = begun;
     s.settings.restore = Bus::ACT;
     acknowledge(b"RESTORE_CFG E7", s, file);
+    s = begun;
+    s.settings.rule = 0;
+    acknowledge(b"rule 0", s, file);
+    s.settings.rule = 2;
+    acknowledge(b"rule 2", s, file);
+    s.settings.rule = 3;
+    acknowledge(b"rule 3", s, file);
 }
 
 // With k = 0 and 9 stands the n that is right for it. No configuration in hand is under k = 0, so that two reasons hold there too.
@@ -235,6 +242,7 @@ pub(crate) fn run() {
         wanted: false,
         limit: 10,
         restore: 0xF2,
+        rule: 1,
     };
     let begun = settings.begin(file);
     say_handed(b"begun", begun);

@@ -28,5 +28,9 @@ returns-6 : tie.Need-returns-6
 unfolding valueOf
 returns-6 c = search tests
 
+returns-7 : tie.Need-returns-7
+unfolding valueOf
+returns-7 c = search tests
+
 pub value-spec : {M : Type 1} → statement M
-value-spec = tie.close (tie.spec returns returns-2 returns-3 returns-4 returns-5 returns-6)
+value-spec = tie.close (tie.spec returns returns-2 returns-3 returns-4 returns-5 returns-6 returns-7)

@@ -1,7 +1,10 @@
 -- The same tests in the same order. Assumes nothing.
+use mathlib.Core.Path.{_∙_, ap}
+use mathlib.Core.Bool.{not}
 use borrow.Author.Tests.{le-leb, lt-leb}
 use Rattle.promise.proofs.Basics.{via}
 use Rattle.session.specs.Sound.{all, settingTests, allowedOf}
+use Rattle.session.proofs.Tests.{all-last1, all-next}
 use borrow.Author.Needs.{needs}
 use Rattle.session.proofs.Settings.allowed.Statement.{statement}
 use Rattle.session.proofs.Settings.allowed.Tie as tie
@@ -21,10 +24,13 @@ returns-3 c =
     simp (le-leb 1 _ (b .before .before .if1 .left), le-leb _ 10000 (b .if2 .left), via (c .before .reserved .ensures) (c .if3 .taken))
 
 returns-4 : tie.Need-returns-4
-unfolding all settingTests allowedOf
+unfolding settingTests allowedOf
 returns-4 c =
-    let b = c .before .before in
-    simp (le-leb 1 _ (b .before .before .if1 .left), le-leb _ 10000 (b .if2 .left), via (c .before .reserved .ensures) (c .if3 .left))
+    let b = c .before .before .before in
+    c .known-rule .ensures
+    ∙ all-next _ _ _ (le-leb 1 _ (b .before .before .if1 .left))
+    (all-next _ _ _ (le-leb _ 10000 (b .if2 .left))
+    (all-next _ _ _ (ap not (via (c .before .before .reserved .ensures) (c .before .if3 .left))) (all-last1 _)))
 
 pub allowed-spec : {M : Type 1} → statement M
-allowed-spec = tie.close (tie.spec returns returns-2 (λ c κs. search needs) returns-3 returns-4)
+allowed-spec = tie.close (tie.spec returns returns-2 (λ c κs. search needs) (λ c κs. search needs) returns-3 returns-4)

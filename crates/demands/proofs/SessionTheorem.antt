@@ -1,0 +1,22 @@
+-- Demands 2 and 3 once, for any number of kept places; rules 1 and 2 are its instances. Assumes nothing.
+use mathlib.Core.List.{List}
+use Prim.Native.Nat.{ℕ}
+use Rattle.image.specs.Meets.{Meets}
+use Rattle.guide.specs.Plan.{Reply}
+use Rattle.session.specs.declared.Settings.{Settings}
+use Rattle.session.specs.Terms.{keeping}
+use Rattle.demands.specs.Headline.{Allowed, Keeps, rule1, rule2}
+use Rattle.demands.specs.Rules.{Demanded, SessionTheorem}
+use Rattle.demands.proofs.Demand2.{demand2}
+use Rattle.demands.proofs.Demand3.{demand3}
+
+pub session-theorem : (S : Settings) {text : List ℕ} (m : Meets text) (rs : List Reply) → SessionTheorem S m rs
+session-theorem S m rs =
+    record {
+      once = once;
+      underRule1 = λ e. once 0 (rw e rule1);
+      underRule2 = λ e. once 2 (rw e rule2);
+    }
+  where
+    once : (kept : ℕ) → Keeps (S .rule) kept → Allowed (keeping kept S) → Demanded S kept m rs
+    once kept r a = record { demand2 = demand2 S r m a rs; demand3 = demand3 S r m a rs }
