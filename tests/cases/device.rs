@@ -8,12 +8,42 @@ use crate::random::Rng;
 
 pub const PRODUCTION_FLAG: u32 = 0xFFFE_0001;
 
-/// What stands before the replies of a dry run. `step_1` 0 is "not wanted".
+/// How many bytes of a dry run's input the settings take, and which of them is the house rule.
+pub const SETTINGS_BYTES: usize = 5;
+pub const RULE_PLACE: usize = 4;
+/// The settings and the file's length, which the file stands behind.
+pub const HEADER_BYTES: usize = SETTINGS_BYTES + 4;
+
+/// What stands before the file of a dry run. `step_1` 0 is "not wanted".
 #[derive(Clone, Copy)]
 pub struct Settings {
     pub step_1: u8,
     pub poll_limit: u16,
     pub restore_cfg: u8,
+    pub rule: u8,
+}
+
+impl Settings {
+    fn bytes(self) -> [u8; SETTINGS_BYTES] {
+        let [limit_low, limit_high] = self.poll_limit.to_le_bytes();
+        [
+            self.step_1,
+            limit_low,
+            limit_high,
+            self.restore_cfg,
+            self.rule,
+        ]
+    }
+}
+
+/// The house rules that are allowed (document 02, R-13).
+pub const RULES: [u8; 2] = [1, 2];
+
+/// The least counter that is not PLACES for k configurations under an allowed rule, PLACES being:
+/// "under rule 1, k is more than the counter; under rule 2, k + 2 is".
+pub fn least_counter(rule: u8, k: usize) -> u32 {
+    let kept = if rule == 2 { 2 } else { 0 };
+    k as u32 + kept
 }
 
 #[derive(Clone)]
@@ -75,9 +105,9 @@ pub struct Device {
 }
 
 impl Device {
-    /// A device with which a session of this file is done.
-    pub fn fitting(rng: &mut Rng, draft: &Draft) -> Device {
-        let (counter, flag) = fitting_counter(rng, draft);
+    /// A device with which a session of this file under this house rule is done.
+    pub fn fitting(rng: &mut Rng, draft: &Draft, rule: u8) -> Device {
+        let (counter, flag) = fitting_counter(rng, draft, rule);
         Device {
             setup: rng.word(),
             counter,
@@ -155,13 +185,22 @@ impl Walk {
     }
 }
 
-fn fitting_counter(rng: &mut Rng, draft: &Draft) -> (u32, u32) {
+fn fitting_counter(rng: &mut Rng, draft: &Draft, rule: u8) -> (u32, u32) {
+    let least = least_counter(rule, draft.k) as usize;
     if draft.kind == Kind::Legacy {
-        (rng.from_to(draft.k, 27) as u32, 0)
+        (rng.from_to(least, 27) as u32, 0)
     } else if rng.once_in(3) {
         (28, rng.pick(&[0, 1, PRODUCTION_FLAG, 0xFFFF_FFFF]))
     } else {
-        (rng.from_to(draft.k, 28) as u32, PRODUCTION_FLAG)
+        (rng.from_to(least, 28) as u32, PRODUCTION_FLAG)
+    }
+}
+
+/// The flag by which a device wants files of a kind, where its counter is under 28.
+pub fn flag_of(kind: Kind) -> u32 {
+    match kind {
+        Kind::Legacy => 0,
+        Kind::Production => PRODUCTION_FLAG,
     }
 }
 
@@ -172,9 +211,7 @@ pub fn right_banks(k: usize) -> u32 {
 
 /// The bytes of a dry run's input.
 pub fn input(settings: Settings, file: &[u8], replies: &[Reply]) -> Vec<u8> {
-    let mut bytes = vec![settings.step_1];
-    bytes.extend(settings.poll_limit.to_le_bytes());
-    bytes.push(settings.restore_cfg);
+    let mut bytes = settings.bytes().to_vec();
     bytes.extend((file.len() as u32).to_le_bytes());
     bytes.extend_from_slice(file);
     bytes.extend(reply_bytes(replies));

@@ -4,7 +4,7 @@ use std::fs;
 use std::io;
 use std::path::Path;
 
-use crate::device::{input, replies_of, right_banks, Device, Settings, PRODUCTION_FLAG};
+use crate::device::{flag_of, input, replies_of, right_banks, Device, Settings};
 use crate::draft::{identity_of, Draft, Kind};
 use crate::line::{burn, header, write};
 use crate::random::Rng;
@@ -52,8 +52,8 @@ fn example(kind: Kind, part: u8, revision: u8, identifiers: &[u8]) -> Draft {
     draft
 }
 
-/// Writes a dry run for an accepted file: step 1 wanted, poll limit 10, RESTORE_CFG F2, two polls
-/// with bit 0 clear, and DONE.
+/// Writes a dry run for an accepted file: step 1 wanted, poll limit 10, RESTORE_CFG F2, house rule
+/// 1, two polls with bit 0 clear, and DONE.
 pub fn write_session(file: &Path, out: &Path) -> io::Result<()> {
     let text = fs::read(file)?;
     let draft = draft_of(&text)
@@ -62,16 +62,13 @@ pub fn write_session(file: &Path, out: &Path) -> io::Result<()> {
         step_1: 1,
         poll_limit: 10,
         restore_cfg: 0xF2,
+        rule: 1,
     };
     let device = Device {
         setup: 0x0000_0124,
         counter: 20,
         identity: u32::from_be_bytes(draft.identity()),
-        flag: if draft.kind == Kind::Legacy {
-            0
-        } else {
-            PRODUCTION_FLAG
-        },
+        flag: flag_of(draft.kind),
         revision: 0x0600_0000,
         statuses: vec![0x00, 0x00, 0x01],
         banks: right_banks(draft.k),

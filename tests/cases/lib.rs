@@ -16,6 +16,7 @@ mod sessions;
 mod spoil;
 pub mod text;
 
+pub use device::{HEADER_BYTES, RULE_PLACE, SETTINGS_BYTES};
 pub use ending::{at, At, Ending, Made, WHOLE};
 pub use files::files;
 pub use list::Case;

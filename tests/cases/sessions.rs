@@ -14,7 +14,7 @@ mod refused;
 mod reply_faults;
 mod written;
 
-use crate::device::{input, replies_of, Device, Reply, Settings, Step};
+use crate::device::{input, replies_of, Device, Reply, Settings, Step, RULES};
 use crate::draft::{Draft, Kind};
 use crate::line::header;
 use crate::list::{Case, List};
@@ -55,6 +55,13 @@ pub struct Session {
 }
 
 impl Session {
+    /// With a device of this counter and this flag.
+    fn counting(mut self, counter: u32, flag: u32) -> Session {
+        self.device.counter = counter;
+        self.device.flag = flag;
+        self
+    }
+
     pub fn steps(&self) -> Vec<Step> {
         self.device.walk(&self.draft, self.settings)
     }
@@ -65,11 +72,18 @@ impl Session {
 }
 
 impl Sessions {
+    /// A session under either house rule.
     pub fn session(&mut self, kind: Kind, k: usize) -> Session {
+        let rule = self.rng.pick(&RULES);
+        self.session_under(rule, kind, k)
+    }
+
+    /// A session under this house rule (document 02, R-13).
+    fn session_under(&mut self, rule: u8, kind: Kind, k: usize) -> Session {
         let mut draft = Draft::random(&mut self.rng, kind, k);
         draft.set(3, header(0x01, &self.rng.bytes(3)));
         draft.set(4, header(0x02, &self.rng.bytes(1)));
-        let device = Device::fitting(&mut self.rng, &draft);
+        let device = Device::fitting(&mut self.rng, &draft, rule);
         let step_1 = self.rng.pick(&[0, 0, 1, 1, 2, 0x80, 0xFF]);
         let poll_limit = self.rng.pick(&LIMITS);
         let restore_cfg = self.restore_cfg();
@@ -79,6 +93,7 @@ impl Sessions {
                 step_1,
                 poll_limit,
                 restore_cfg,
+                rule,
             },
             device,
         }
@@ -144,6 +159,7 @@ impl Sessions {
         self.identities();
         self.revisions();
         self.places();
+        self.kept_places();
         self.faults_together();
         self.polls();
         self.statuses();

@@ -3,6 +3,7 @@
 use cases::line::{line, pec};
 use cases::random::Rng;
 use cases::text::capital;
+use cases::{HEADER_BYTES, RULE_PLACE, SETTINGS_BYTES};
 
 /// No text gets longer: far more than a file may have, and less than the C side has room for.
 const LONGEST: usize = 200_000;
@@ -211,24 +212,27 @@ fn decoded(digits: &[u8]) -> Option<Vec<u8>> {
 
 /// A dry run's input with a change: of the settings, of the file in it, or of the replies.
 pub fn changed_input(rng: &mut Rng, input: &[u8]) -> Vec<u8> {
-    if input.len() < 9 {
+    if input.len() <= HEADER_BYTES {
         return input.to_vec();
     }
-    let length = input[4..8]
+    let (settings, length) = input[..HEADER_BYTES].split_at(SETTINGS_BYTES);
+    let length = length
         .iter()
         .rev()
         .fold(0, |n, &byte| n << 8 | usize::from(byte));
-    let behind = (8 + length).min(input.len());
-    let (settings, file, replies) = (&input[..4], &input[8..behind], &input[behind..]);
+    let behind = (HEADER_BYTES + length).min(input.len());
+    let (file, replies) = (&input[HEADER_BYTES..behind], &input[behind..]);
     let (mut settings, mut file, mut replies) =
         (settings.to_vec(), file.to_vec(), replies.to_vec());
-    match rng.below(8) {
+    match rng.below(9) {
         0 => {
-            let place = rng.below(4);
+            let place = rng.below(SETTINGS_BYTES);
             settings[place] = rng.byte();
         }
         1 => file = changed_text(rng, &file, input),
         2 => replies.truncate(rng.below(replies.len() + 1)),
+        // Mostly an allowed rule, so that the counter is judged by the other one.
+        3 => settings[RULE_PLACE] = rng.pick(&[0, 1, 1, 2, 2, 3]),
         _ if !replies.is_empty() => {
             // The first replies are those that are judged; the others answer the write lines.
             let bound = if rng.once_in(2) {

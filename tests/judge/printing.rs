@@ -21,6 +21,8 @@ pub struct Printing {
     pub second: fn(&[u8]) -> String,
     /// How a case ended, by what was printed.
     pub ending_of: fn(&str) -> Option<Ending>,
+    /// What the tally counts a case as that ended so.
+    pub word_of: fn(&Case, Ending) -> String,
     pub floor: Floor,
 }
 
@@ -52,7 +54,7 @@ impl Printing {
         Ok(Answers {
             ours,
             theirs: theirs.into_bytes(),
-            word: ending.map_or("no answer".into(), |ending| ending.word()),
+            word: ending.map_or("no answer".into(), |ending| (self.word_of)(case, ending)),
             fault: fault_of(case, ending),
         })
     }

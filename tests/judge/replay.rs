@@ -1,6 +1,6 @@
 //! The program replay, on dry runs against a simulated regulator.
 
-use cases::Ending;
+use cases::{Case, Ending, RULE_PLACE};
 
 use crate::printing::Printing;
 use crate::seeded::Floor;
@@ -12,15 +12,26 @@ pub const REPLAY: Printing = Printing {
     what: "dry runs",
     second: second::replay,
     ending_of,
+    word_of,
     floor: Floor {
         cases: 400,
         times: 10,
         answers: &[
             " 0", " 2", " 3", " 4", " 5", " 6 at 1", " 6 at 5", " 6 at 7", " 6 at 9", "14", "20",
-            "21", "22", "23", "24", "25", "26", "27", "28", "29", "30", "31",
+            "21", "22", "23", "24", "25", "26", "27", "28 by 1", "28 by 2", "29", "30", "31",
         ],
     },
 };
+
+const PLACES: u8 = 28;
+
+/// 28 is counted by the house rule under which it was given (request R-13).
+fn word_of(case: &Case, ending: Ending) -> String {
+    match ending {
+        Ending::Number { number: PLACES, .. } => format!("28 by {}", case.bytes[RULE_PLACE]),
+        _ => ending.word(),
+    }
+}
 
 /// By the one line that is neither a request nor the count.
 fn ending_of(printed: &str) -> Option<Ending> {

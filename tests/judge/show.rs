@@ -12,6 +12,7 @@ pub const SHOW: Printing = Printing {
     what: "files",
     second: second::show,
     ending_of,
+    word_of: |_, ending| ending.word(),
     floor: FLOOR,
 };
 

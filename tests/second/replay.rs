@@ -6,6 +6,9 @@ use crate::file::Image;
 use crate::session::{begin, run, Settings};
 use crate::verdict::{Stop, DONE};
 
+/// How many bytes the settings take, and the file's length behind them.
+const SETTINGS_BYTES: usize = 5;
+const LENGTH_BYTES: usize = 4;
 const ROOM_FOR_FILE: usize = 65_600;
 const ROOM_FOR_REPLIES: usize = 200_000;
 const CUT_SHORT: &str = "cut short\n";
@@ -25,8 +28,9 @@ fn split_at_if(bytes: &[u8], count: usize) -> Option<(&[u8], &[u8])> {
 
 /// Takes a dry run's input apart, or gives the only line to print.
 fn parse_dry_run(input: &[u8]) -> Result<DryRun<'_>, &'static str> {
-    let (header, rest) = split_at_if(input, 8).ok_or(CUT_SHORT)?;
-    let file_length = lowest_first(&header[4..8]) as usize;
+    let (settings, rest) = split_at_if(input, SETTINGS_BYTES).ok_or(CUT_SHORT)?;
+    let (file_length, rest) = split_at_if(rest, LENGTH_BYTES).ok_or(CUT_SHORT)?;
+    let file_length = lowest_first(file_length) as usize;
     if file_length > ROOM_FOR_FILE {
         return Err(TOO_LONG);
     }
@@ -34,17 +38,22 @@ fn parse_dry_run(input: &[u8]) -> Result<DryRun<'_>, &'static str> {
     if reply_bytes.len() > ROOM_FOR_REPLIES {
         return Err(TOO_LONG);
     }
-    let settings = Settings {
-        step_1_wanted: header[0] != 0,
-        poll_limit: u16::from_le_bytes([header[1], header[2]]),
-        restore_cfg: header[3],
-    };
     let replies = parse_replies(reply_bytes).ok_or(CUT_SHORT)?;
     Ok(DryRun {
-        settings,
+        settings: settings_of(settings),
         file,
         replies,
     })
+}
+
+/// The settings, in the order in which their bytes stand.
+fn settings_of(bytes: &[u8]) -> Settings {
+    Settings {
+        step_1_wanted: bytes[0] != 0,
+        poll_limit: u16::from_le_bytes([bytes[1], bytes[2]]),
+        restore_cfg: bytes[3],
+        rule: bytes[4],
+    }
 }
 
 /// The replies, each a kind byte, a length byte and the bytes; none if the last is cut short.

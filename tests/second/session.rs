@@ -15,12 +15,17 @@ pub struct Settings {
     pub step_1_wanted: bool,
     pub poll_limit: u16,
     pub restore_cfg: u8,
+    /// The house rule (request R-13).
+    pub rule: u8,
 }
 
 impl Settings {
+    /// "a rule other than 1 or 2 is 14 SETTING"; the others are the page's.
     fn allowed(&self) -> bool {
         let reserved = [0xC5, 0xC6, 0xC7, 0xE7, 0xAD, 0xAE];
-        (1..=10_000).contains(&self.poll_limit) && !reserved.contains(&self.restore_cfg)
+        (1..=10_000).contains(&self.poll_limit)
+            && !reserved.contains(&self.restore_cfg)
+            && [1, 2].contains(&self.rule)
     }
 }
 
@@ -38,7 +43,7 @@ pub fn run(host: &mut Host, settings: &Settings, image: &Image) -> Result<(), St
     if settings.step_1_wanted {
         step_1(host)?;
     }
-    step_2(host, image)?;
+    step_2(host, settings.rule, image)?;
     step_3(host, image)?;
     step_4(host, settings.poll_limit)?;
     step_5(host, image.configs)?;
@@ -55,7 +60,7 @@ fn step_1(host: &mut Host) -> Result<(), Stop> {
     host.write(0xE7, &[0x02, 0x00])
 }
 
-fn step_2(host: &mut Host, image: &Image) -> Result<(), Stop> {
+fn step_2(host: &mut Host, rule: u8, image: &Image) -> Result<(), Stop> {
     host.select([0x35, 0x00])?;
     let counter = lowest_first(host.read_register()?);
     let identity = lowest_first(host.read_block(READ_IDENTITY)?);
@@ -72,7 +77,16 @@ fn step_2(host: &mut Host, image: &Image) -> Result<(), Stop> {
     };
     end_if(revision >> 24 < 0x06, OLD)?;
     end_if(image.kind != wanted, KIND)?;
-    end_if(image.configs > counter as usize, PLACES)
+    end_if(lacks_places(rule, image.configs, counter as usize), PLACES)
+}
+
+/// 28: "under rule 1, k is more than the counter; under rule 2, k + 2 is".
+fn lacks_places(rule: u8, configs: usize, counter: usize) -> bool {
+    if rule == 2 {
+        configs + 2 > counter
+    } else {
+        configs > counter
+    }
 }
 
 /// "Kind wanted".

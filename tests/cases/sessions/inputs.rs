@@ -1,7 +1,7 @@
 //! Inputs of dry runs that are cut short or too long, or just not.
 
 use super::Sessions;
-use crate::device::{input, reply_bytes, Reply, Settings};
+use crate::device::{input, reply_bytes, Reply, Settings, HEADER_BYTES, SETTINGS_BYTES};
 use crate::draft::Draft;
 
 const ROOM_FOR_FILE: usize = 65_600;
@@ -10,12 +10,13 @@ const FINE: Settings = Settings {
     step_1: 1,
     poll_limit: 10,
     restore_cfg: 0xF2,
+    rule: 1,
 };
-const BAD: Settings = Settings {
-    step_1: 1,
+const BAD_LIMIT: Settings = Settings {
     poll_limit: 0,
-    restore_cfg: 0xF2,
+    ..FINE
 };
+const BAD_RULE: Settings = Settings { rule: 3, ..FINE };
 
 impl Sessions {
     pub(super) fn input_cases(&mut self) {
@@ -33,17 +34,17 @@ impl Sessions {
     }
 
     fn cut_headers_and_files(&mut self) {
-        for count in 0..8 {
+        for count in 0..HEADER_BYTES {
             let (_, mut bytes) = self.fresh_input();
             bytes.truncate(count);
             self.put_bytes(&format!("cutshort-header-{count}"), &bytes);
         }
-        for settings in [FINE, BAD] {
+        for settings in [FINE, BAD_LIMIT, BAD_RULE] {
             let (draft, _) = self.fresh_input();
             let file = self.file(&draft);
             let whole = input(settings, &file, &[]);
-            let inside = self.rng.from_to(9, whole.len() - 2);
-            for count in [8, 9, inside, whole.len() - 1] {
+            let inside = self.rng.from_to(HEADER_BYTES + 1, whole.len() - 2);
+            for count in [HEADER_BYTES, HEADER_BYTES + 1, inside, whole.len() - 1] {
                 self.put_bytes(&format!("cutshort-file-{count}"), &whole[..count]);
             }
         }
@@ -65,7 +66,7 @@ impl Sessions {
             );
             let (draft, _) = self.fresh_input();
             let file = self.file(&draft);
-            for settings in [FINE, BAD] {
+            for settings in [FINE, BAD_LIMIT, BAD_RULE] {
                 let first = input(settings, &file, &[]);
                 self.put_bytes(
                     &format!("cutshort-first-{label}"),
@@ -78,17 +79,16 @@ impl Sessions {
     fn long_files(&mut self) {
         let header = |settings: Settings, length: u32| {
             let mut bytes = input(settings, b"", &[]);
-            bytes[4..8].copy_from_slice(&length.to_le_bytes());
+            bytes[SETTINGS_BYTES..HEADER_BYTES].copy_from_slice(&length.to_le_bytes());
             bytes
         };
-        for settings in [FINE, BAD] {
+        for (number, settings) in [(1, FINE), (14, BAD_LIMIT), (14, BAD_RULE)] {
             let room = ROOM_FOR_FILE as u32;
             for length in [room + 1, 70_000, 0x0100_0000, 0xFFFF_FFFF] {
                 let label = format!("toolong-file-{length}-missing");
                 self.put_bytes(&label, &header(settings, length));
             }
             self.put_bytes("cutshort-file-65600-missing", &header(settings, room));
-            let number = if settings.poll_limit == 0 { 14 } else { 1 };
             let full = input(settings, &vec![b'\n'; ROOM_FOR_FILE], &[]);
             self.put_bytes(&format!("want{number}-file-65600"), &full);
             let over = input(settings, &vec![b'\n'; ROOM_FOR_FILE + 1], &[]);
@@ -116,7 +116,7 @@ impl Sessions {
         }
         let session = self.small_session();
         let file = self.file(&session.draft);
-        for settings in [session.settings, BAD] {
+        for settings in [session.settings, BAD_LIMIT, BAD_RULE] {
             let mut bytes = input(settings, &file, &[]);
             bytes.extend([1, 0].repeat(ROOM_FOR_REPLIES / 2 - 1));
             bytes.extend([1, 1]);

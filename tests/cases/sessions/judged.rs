@@ -1,7 +1,7 @@
 //! Verdicts 23 to 28: what the device says of itself.
 
 use super::{Session, Sessions};
-use crate::device::PRODUCTION_FLAG;
+use crate::device::{flag_of, least_counter, PRODUCTION_FLAG, RULES};
 use crate::draft::{identity_of, Kind, BOTH, PARTS};
 use crate::list::names;
 
@@ -13,7 +13,7 @@ const KIND: u8 = 27;
 const PLACES: u8 = 28;
 
 impl Sessions {
-    /// The cases of "Run and compared".
+    /// The cases of "Run and compared". The page knows no house rule: what it says is rule 1.
     pub(super) fn page_examples(&mut self) {
         let legacy = Kind::Legacy;
         let production = Kind::Production;
@@ -31,22 +31,22 @@ impl Sessions {
         ];
         for (verdict, kind, counter, flag) in cases {
             let label = format!("want{verdict}-page-{}-{counter}-{flag:x}", kind.name());
-            self.put_device(&label, kind, 1, |session| {
-                session.device.counter = counter;
-                session.device.flag = flag;
-            });
+            let session = self.session_under(1, kind, 1).counting(counter, flag);
+            self.put(&label, &session);
         }
         for (verdict, status) in [(0, 0x41), (29, 0x09)] {
             let label = format!("want{verdict}-page-status-{status:02x}");
             let kind = self.rng.kind();
-            self.put_device(&label, kind, 1, |session| {
-                session.device.statuses = vec![status]
-            });
+            let mut session = self.session_under(1, kind, 1);
+            session.device.statuses = vec![status];
+            self.put(&label, &session);
         }
         for (verdict, banks) in [(0, 0x11), (30, 0x111), (30, 0x10)] {
             let label = format!("want{verdict}-page-banks-{banks:08x}");
             let kind = self.rng.kind();
-            self.put_device(&label, kind, 2, |session| session.device.banks = banks);
+            let mut session = self.session_under(1, kind, 2);
+            session.device.banks = banks;
+            self.put(&label, &session);
         }
     }
 
@@ -69,10 +69,8 @@ impl Sessions {
             for counter in counters {
                 for flag in flags {
                     let label = format!("open-{}-{counter:x}-{flag:08x}", kind.name());
-                    self.put_device(&label, kind, 1, |session| {
-                        session.device.counter = counter;
-                        session.device.flag = flag;
-                    });
+                    let session = self.session(kind, 1).counting(counter, flag);
+                    self.put(&label, &session);
                 }
             }
         }
@@ -111,27 +109,76 @@ impl Sessions {
         }
     }
 
-    /// The counter just under k, and just at it.
+    /// Under each house rule, for each k: the counter just under the least that does, just at it,
+    /// and above it.
     pub(super) fn places(&mut self) {
-        for kind in BOTH {
-            for k in 1..=8 {
-                for (verdict, counter) in [(PLACES, k - 1), (0, k)] {
-                    let label = format!("want{verdict}-places-{}-k{k}", kind.name());
-                    let flag = if kind == Kind::Legacy {
-                        0
-                    } else {
-                        PRODUCTION_FLAG
-                    };
-                    self.put_device(&label, kind, k, |session| {
-                        session.device.counter = counter as u32;
-                        session.device.flag = flag;
-                    });
+        for rule in RULES {
+            for kind in BOTH {
+                for k in 1..=8 {
+                    let least = least_counter(rule, k);
+                    for (verdict, counter) in [(PLACES, least - 1), (0, least), (0, least + 1)] {
+                        self.put_places(verdict, rule, kind, k, counter);
+                    }
                 }
             }
         }
     }
 
-    /// Every set of faults among 23 to 28 that can come together: the smallest is given.
+    fn put_places(&mut self, verdict: u8, rule: u8, kind: Kind, k: usize, counter: u32) {
+        let name = kind.name();
+        let label = format!("want{verdict}-places-rule{rule}-{name}-k{k}-counter{counter}");
+        let session = self.session_under(rule, kind, k);
+        self.put(&label, &session.counting(counter, flag_of(kind)));
+    }
+
+    /// Rule 2 changes PLACES alone (document 02, R-13): 23 and the kind wanted go by the counter as
+    /// it was read, and nothing is taken off it or added to it.
+    pub(super) fn kept_places(&mut self) {
+        let legacy = Kind::Legacy;
+        let production = Kind::Production;
+        let cases = [
+            (0, production, 1, 28, 0),
+            (0, production, 8, 28, 0),
+            (0, production, 8, 10, PRODUCTION_FLAG),
+            (0, legacy, 8, 10, 0),
+            (0, legacy, 1, 26, 0),
+            (0, legacy, 8, 27, 0),
+            (COUNTER, legacy, 1, 29, 0),
+            (COUNTER, legacy, 1, 30, 0),
+            (COUNTER, production, 1, 29, PRODUCTION_FLAG),
+            (COUNTER, production, 1, 30, PRODUCTION_FLAG),
+            (COUNTER, production, 1, 30, 0),
+            (FLAG, production, 1, 26, 1),
+            (FLAG, legacy, 1, 26, 1),
+            (KIND, legacy, 1, 28, 0),
+            (KIND, legacy, 8, 28, 0),
+            (KIND, production, 1, 26, 0),
+            (KIND, production, 1, 27, 0),
+            // Too few places besides.
+            (FLAG, production, 1, 2, 1),
+            (FLAG, legacy, 8, 9, 1),
+            (KIND, production, 1, 2, 0),
+            (KIND, production, 8, 9, 0),
+            (KIND, legacy, 1, 2, PRODUCTION_FLAG),
+            (KIND, legacy, 8, 9, PRODUCTION_FLAG),
+            (PLACES, production, 8, 9, PRODUCTION_FLAG),
+            (PLACES, legacy, 8, 9, 0),
+            // Fewer places than are kept.
+            (PLACES, production, 1, 0, PRODUCTION_FLAG),
+            (PLACES, production, 1, 1, PRODUCTION_FLAG),
+            (PLACES, legacy, 1, 0, 0),
+            (PLACES, legacy, 1, 1, 0),
+        ];
+        for (verdict, kind, k, counter, flag) in cases {
+            let name = kind.name();
+            let label = format!("want{verdict}-kept-rule2-{name}-k{k}-counter{counter}-{flag:x}");
+            let session = self.session_under(2, kind, k).counting(counter, flag);
+            self.put(&label, &session);
+        }
+    }
+
+    /// Every set of faults among 23 to 28 that can come together, under each house rule: the
+    /// smallest is given.
     pub(super) fn faults_together(&mut self) {
         for kind in BOTH {
             for set in 1..64u8 {
@@ -142,23 +189,31 @@ impl Sessions {
                 if has(FLAG) && has(KIND) || has(COUNTER) && has(PLACES) {
                     continue;
                 }
-                let label = format!("want{}-together-{}", faults[0], names(&faults));
-                let mut session = self.session(kind, 1);
-                spoil_device(&mut session, &faults);
-                self.put(&label, &session);
+                for rule in RULES {
+                    self.put_together(rule, kind, &faults);
+                }
             }
         }
+    }
+
+    fn put_together(&mut self, rule: u8, kind: Kind, faults: &[u8]) {
+        let names = names(faults);
+        let label = format!("want{}-together-rule{rule}-{names}", faults[0]);
+        let mut session = self.session_under(rule, kind, 1);
+        spoil_device(&mut session, faults);
+        self.put(&label, &session);
     }
 }
 
 fn spoil_device(session: &mut Session, faults: &[u8]) {
     let has = |fault: u8| faults.contains(&fault);
     let production = session.draft.kind == Kind::Production;
+    let least = least_counter(session.settings.rule, session.draft.k);
     let device = &mut session.device;
     device.counter = if has(COUNTER) {
         29
     } else if has(PLACES) {
-        0
+        least - 1
     } else {
         27
     };

@@ -55,7 +55,7 @@ impl Sessions {
         let device = &mut session.device;
         let bit = 1u32 << self.rng.below(32);
         match self.rng.below(8) {
-            0 => device.counter = self.rng.pick(&[0, 1, 2, 26, 27, 28, 29, 30, 256]),
+            0 => device.counter = self.rng.pick(&[0, 1, 2, 3, 4, 5, 26, 27, 28, 29, 30, 256]),
             1 => device.identity ^= bit,
             2 => device.identity = u32::from_be_bytes(identity_of(self.rng.pick(&PARTS))),
             3 => device.flag = self.rng.pick(&[0, 1, PRODUCTION_FLAG, 0xFFFE_0000]),

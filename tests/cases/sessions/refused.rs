@@ -1,7 +1,7 @@
 //! Refused begins.
 
 use super::{Sessions, RESERVED};
-use crate::device::input;
+use crate::device::{input, Settings};
 use crate::draft::{identity_of, Draft};
 use crate::ending::{at, At, WHOLE};
 use crate::line::{burn, header, write};
@@ -12,22 +12,56 @@ use crate::text::{capital, with_line};
 
 const OF_THE_FILE: [u8; 7] = [SIZE, COUNT, REVISION, DEVICE, BURNS, SPOT, SAME];
 
-impl Sessions {
-    pub(super) fn refused_settings(&mut self) {
-        let limits = [0, 10_001, 10_002, 20_000, 0x8000, 65_535].map(|limit| (limit, 0xF2));
-        let codes = RESERVED.map(|code| (7, code));
-        let both = [(0, 0xC5), (65_535, 0xAE)];
-        for (poll_limit, restore_cfg) in limits.into_iter().chain(codes).chain(both) {
-            let mut session = self.small_session();
-            session.settings.poll_limit = poll_limit;
-            session.settings.restore_cfg = restore_cfg;
-            let label = format!("limit{poll_limit}-restore{restore_cfg:02x}");
-            self.put(&format!("want14-{label}"), &session);
+/// Settings that are not allowed: poll limits, and house rules (document 02, R-13).
+const BAD_LIMITS: [u16; 6] = [0, 10_001, 10_002, 20_000, 0x8000, 65_535];
+const BAD_RULES: [u8; 5] = [0, 3, 4, 128, 255];
 
-            let (number, file) = self.any_refused_file();
-            let bytes = input(session.settings, &file, &session.replies());
-            self.put_bytes(&format!("want14-{label}-and-file-{number}"), &bytes);
+impl Sessions {
+    /// Each setting that is not allowed by itself, and together with another.
+    pub(super) fn refused_settings(&mut self) {
+        for limit in BAD_LIMITS {
+            self.put_refused_settings(|settings| settings.poll_limit = limit);
         }
+        for code in RESERVED {
+            self.put_refused_settings(|settings| settings.restore_cfg = code);
+        }
+        for (limit, code) in [(0, 0xC5), (65_535, 0xAE)] {
+            self.put_refused_settings(|settings| {
+                settings.poll_limit = limit;
+                settings.restore_cfg = code;
+            });
+        }
+        for rule in BAD_RULES {
+            self.put_refused_settings(|settings| settings.rule = rule);
+            let limit = self.rng.pick(&BAD_LIMITS);
+            self.put_refused_settings(|settings| {
+                settings.poll_limit = limit;
+                settings.rule = rule;
+            });
+            let code = self.rng.pick(&RESERVED);
+            self.put_refused_settings(|settings| {
+                settings.restore_cfg = code;
+                settings.rule = rule;
+            });
+        }
+    }
+
+    /// Settings of a session spoiled by a change, with its own file and with a refused one.
+    fn put_refused_settings(&mut self, spoil: impl FnOnce(&mut Settings)) {
+        let mut session = self.small_session();
+        spoil(&mut session.settings);
+        let Settings {
+            poll_limit,
+            restore_cfg,
+            rule,
+            ..
+        } = session.settings;
+        let label = format!("want14-limit{poll_limit}-restore{restore_cfg:02x}-rule{rule}");
+        self.put(&label, &session);
+
+        let (number, file) = self.any_refused_file();
+        let bytes = input(session.settings, &file, &session.replies());
+        self.put_bytes(&format!("{label}-and-file-{number}"), &bytes);
     }
 
     fn any_refused_file(&mut self) -> (u8, Vec<u8>) {
