@@ -15,6 +15,8 @@ const LINES: u32 = 2916;
 const OPENING: u32 = 6;
 const REPLIES: u32 = LINES - 5;
 pub const ALL: u32 = OPENING + REPLIES;
+/// The house rule of both sessions.
+const RULE: u8 = 1;
 
 /// The reply to a read, as it stands in a dry run: done, its length, its bytes and their PEC.
 fn told(command: u8, said: &[u8]) -> Vec<u8> {
@@ -22,13 +24,13 @@ fn told(command: u8, said: &[u8]) -> Vec<u8> {
     [&[1, said.len() as u8 + 1], said, &[pec]].concat()
 }
 
-/// The dry run of an accepted production file (crates/dryrun/src/parts.rt): step 1 not wanted, poll limit 1, RESTORE_CFG F2; the
-/// file; step 2 of a new device that fits it; and an acknowledgement for every line but the last.
+/// The dry run of an accepted production file (crates/dryrun/src/parts.rt): step 1 not wanted, poll limit 1, RESTORE_CFG F2, house
+/// rule 1; the file; step 2 of a new device that fits it; and an acknowledgement for every line but the last.
 pub fn dry_run(text: &[u8]) -> Vec<u8> {
     let digit = |at: usize| nibble(text[at]).expect("a digit of line 1");
     let [a, b, c, d] = [14, 12, 10, 8].map(|at| 16 * digit(at) + digit(at + 1));
     let acknowledged = [1u8, 0];
-    let mut input = vec![0, 1, 0, 0xF2];
+    let mut input = vec![0, 1, 0, 0xF2, RULE];
     input.extend((text.len() as u32).to_le_bytes());
     input.extend(text);
     input.extend(acknowledged);
@@ -45,6 +47,7 @@ struct Held {
     lines: u32,
     configs: u32,
     limit: u32,
+    rule: u8,
     polls: u32,
     config: u32,
     ids: [u8; 8],
@@ -85,6 +88,7 @@ fn due(text: &[u8], place: usize) -> Option<([u8; 10], usize, usize)> {
 #[inline(never)]
 fn reply(held: &mut Held, text: &[u8], kind: u8, bytes: &[u8]) -> Option<Request> {
     let sound = (1..=10_000).contains(&held.limit)
+        && (1..=2).contains(&held.rule)
         && (1..=8).contains(&held.configs)
         && held.lines == 12 + 363 * held.configs
         && (5..=held.lines).contains(&held.line)
@@ -119,7 +123,8 @@ fn reply_at(input: &[u8], at: usize) -> Option<(u8, &[u8], usize)> {
 fn plain(input: &[u8], text: &[u8], replies: u32) -> u32 {
     let place = text.iter().enumerate().filter(|(_, &byte)| byte == b'\n').nth(4).map_or(0, |(at, _)| at + 1);
     let ids = [0, 1, 2, 3, 4, 5, 6, 7];
-    let mut held = Held { lines: LINES, configs: 8, limit: 1, polls: 0, config: 0, ids, line: 5, place, sent: 7, burned: false };
+    let mut held =
+        Held { lines: LINES, configs: 8, limit: 1, rule: RULE, polls: 0, config: 0, ids, line: 5, place, sent: 7, burned: false };
     let mut at = input.len() - 2 * REPLIES as usize;
     for _ in 0..replies {
         if let Some((kind, bytes, end)) = reply_at(black_box(input), at) {
