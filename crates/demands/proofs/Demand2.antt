@@ -12,16 +12,15 @@ use Rattle.guide.specs.declared.Verdict.the-variants.{Done, Setting, File, Mism
 use Rattle.summary.specs.Answers.{refusalTold}
 use Rattle.summary.proofs.Numbers.{refusal-number}
 use Rattle.bus.specs.declared.Request.{Request}
-use Rattle.guide.specs.declared.Target.{Target}
-use Rattle.guide.specs.declared.Words.{Words}
 use Rattle.guide.specs.Terms.{Terms}
 use Rattle.guide.specs.Plan.{Reply, Outcome, waiting, ended, verdict}
 use Rattle.guide.specs.Matched.{Exchange}
-use Rattle.guide.specs.Verdicts.{ReplyTable, NACK, SHAPE, PEC, FitTable, COUNTER, IDENTITY, FLAG, OLD, KIND, PLACES}
 use Rattle.guide.specs.Guide.{guideFor}
 use Rattle.guide.specs.Course.{Content, Now, over, nowOf, Judged, unfit, PROGRAM, BANKS, MISMATCH, DONE, Course, waits, refused, judged, CourseExactly}
 use Rattle.guide.specs.Course as course
 use Rattle.guide.proofs.CourseExactly.{course-exactly}
+use Rattle.guide.proofs.FitExactly.{turns}
+use Rattle.guide.proofs.ReplyExactly.{reply-turns}
 use Rattle.session.specs.declared.Settings.{Settings}
 use Rattle.session.specs.Reports.{reportOf}
 use Rattle.session.specs.Terms.{keeping}
@@ -46,21 +45,8 @@ abbrev LateNumber : Now → Type 0
 LateNumber course.waiting = Unit
 LateNumber (over number N) = (number ≡ 0) ⊎ (20 ≤ number)
 
-reply-late : {q : Request} {r : Reply} {number N : ℕ} → ReplyTable q r number N → 20 ≤ number
-reply-late (NACK e) = omega arith
-reply-late (SHAPE e) = omega arith
-reply-late (PEC e) = omega arith
-
-fit-late : {target : Target} {kept : ℕ} {read : Words} {number N : ℕ} → FitTable target kept read number N → 20 ≤ number
-fit-late (COUNTER e) = omega arith
-fit-late (IDENTITY e) = omega arith
-fit-late (FLAG e) = omega arith
-fit-late (OLD e) = omega arith
-fit-late (KIND kind w e) = omega arith
-fit-late (PLACES e) = omega arith
-
 judged-late : {T : Terms} {c : Content} {xs : List Exchange} {number N : ℕ} → Judged T c xs number N → (number ≡ 0) ⊎ (20 ≤ number)
-judged-late (unfit w number N f) = inr (fit-late (f .applies))
+judged-late (unfit w number N f) = inr (omega (arith, turns _ _ _ (f .applies)))
 judged-late (PROGRAM w f e g) = inr (omega arith)
 judged-late (BANKS w g f) = inr (omega arith)
 judged-late (MISMATCH w r before x behind crc e f) = inr (omega arith)
@@ -68,7 +54,7 @@ judged-late (DONE w r) = inl refl
 
 course-late : {T : Terms} {c : Content} {rs : List Reply} (x : Now) {qs : List Request} → Course T c rs x qs → LateNumber x
 course-late _ (waits q o) = tt
-course-late _ (refused q r later o number N f) = inr (reply-late (f .applies))
+course-late _ (refused q r later o number N f) = inr (reply-turns (f .applies) .0)
 course-late _ (judged xs left number N h j) = judged-late j
 
 early : {A : Type 0} (n : ℕ) → 1 ≤ n → n ≤ 14 → (n ≡ 0) ⊎ (20 ≤ n) → A

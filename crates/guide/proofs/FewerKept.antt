@@ -3,7 +3,7 @@
 use mathlib.Core.Path.{_≡_, refl, ap, subst}
 use mathlib.Core.Logic.{_⊎_, inl, inr}
 use mathlib.Core.List.{List, [], _∷_, _++_}
-use Prim.Native.Nat.{ℕ, _≤_}
+use Prim.Native.Nat.{ℕ, _+_, _≤_, _<_}
 use native.Mathlib.Omega.{arith}
 use lib.ListN.{length}
 use Rattle.promise.specs.First.{First}
@@ -13,8 +13,9 @@ use Rattle.guide.specs.declared.Words.{Words}
 use Rattle.guide.specs.Terms.{Terms}
 use Rattle.guide.specs.Plan.{Reply}
 use Rattle.guide.specs.Matched.{Exchange, askedIn, Fits}
-use Rattle.guide.specs.Verdicts.{FitTable, COUNTER, IDENTITY, FLAG, OLD, KIND, PLACES}
+use Rattle.guide.specs.Verdicts.{FitTable, PLACES}
 use Rattle.guide.specs.Course.{Config, Content, Said, Now, over, heardConfig, heard6, opened, shown, Fitting, Programmed, Reported, Judged, unfit, PROGRAM, BANKS, MISMATCH, DONE, Run, steps12, steps34, step5, step6, Out, Course, waits, refused, judged}
+use Rattle.guide.proofs.FitRows.{carried}
 
 -- ---- 23 to 28
 
@@ -23,30 +24,19 @@ module _ (target : Target) {kept less : ℕ} (fewer : less ≤ kept) (read : Wor
   fits-too f = record { counted = f .counted; same = f .same; young = f .young; kind = f .kind; places = omega (arith, f .places) }
 
   applies-too : {m N : ℕ} → FitTable target less read m N → FitTable target kept read m N
-  applies-too (COUNTER h) = COUNTER h
-  applies-too (IDENTITY f) = IDENTITY f
-  applies-too (FLAG f) = FLAG f
-  applies-too (OLD h) = OLD h
-  applies-too (KIND kind w f) = KIND kind w f
-  applies-too (PLACES h) = PLACES (omega arith)
-
-  abbrev Is28 : ℕ → ℕ → Type 0
-  Is28 m N = (m ≡ 28) × (N ≡ 0)
-
-  still-applies : {m N : ℕ} → FitTable target kept read m N → FitTable target less read m N ⊎ Is28 m N
-  still-applies (COUNTER h) = inl (COUNTER h)
-  still-applies (IDENTITY f) = inl (IDENTITY f)
-  still-applies (FLAG f) = inl (FLAG f)
-  still-applies (OLD h) = inl (OLD h)
-  still-applies (KIND kind w f) = inl (KIND kind w f)
-  still-applies (PLACES h) = inr (refl, refl)
-
-  still-first : {m N : ℕ} → First (FitTable target kept read) m N → First (FitTable target less read) m N ⊎ Is28 m N
-  still-first {m} {N} f = by (still-applies (f .applies))
+  applies-too {m} {N} row = by (carried {u = target} refl refl {less = kept} row)
     where
-      by : FitTable target less read m N ⊎ Is28 m N → First (FitTable target less read) m N ⊎ Is28 m N
-      by (inl row) = inl (record { applies = row; none = λ i t h x. f .none i t h (applies-too x) })
-      by (inr e) = inr e
+      by : ((m < 28) × FitTable target kept read m N) ⊎ ((m ≡ 28) × (N ≡ 0) × (read .counter < target .configs + less)) → FitTable target kept read m N
+      by (inl (h, same)) = same
+      by (inr (e, z, h)) = rw (e, z) (PLACES (omega arith))
+
+  still-first : {m N : ℕ} → First (FitTable target kept read) m N → First (FitTable target less read) m N ⊎ ((m ≡ 28) × (N ≡ 0))
+  still-first {m} {N} f = by (carried {u = target} refl refl {less = less} (f .applies))
+    where
+      by : ((m < 28) × FitTable target less read m N) ⊎ ((m ≡ 28) × (N ≡ 0) × (read .counter < target .configs + kept))
+          → First (FitTable target less read) m N ⊎ ((m ≡ 28) × (N ≡ 0))
+      by (inl (h, row)) = inl (record { applies = row; none = λ i t g x. f .none i t g (applies-too x) })
+      by (inr (e, z, h)) = inr (e, z)
 
 -- ---- the course
 

@@ -62,7 +62,7 @@ module _ (target : Target) (kept : ℕ) (read : Words) where
       (split (sameKind (target .kind) kind) (λ e. absurd (f (sym (kind-same (target .kind) kind e)))) (λ e. e))
   fails (PLACES h) = rw (lt-ltb (read .counter) (target .configs + kept) h)
 
-  turns : {m N : ℕ} → Table m N → (23 ≤ m) × (m < 29) × (N ≡ 0)
+  pub turns : {m N : ℕ} → Table m N → (23 ≤ m) × (m < 29) × (N ≡ 0)
   turns (COUNTER h) = (omega arith, omega arith, refl)
   turns (IDENTITY f) = (omega arith, omega arith, refl)
   turns (FLAG f) = (omega arith, omega arith, refl)

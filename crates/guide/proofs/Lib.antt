@@ -15,6 +15,7 @@ pub mod CourseIsGuide
 pub mod StepByStep
 pub mod SomeCourse
 pub mod CourseExactly
+pub mod FitRows
 pub mod FewerKept
 pub mod ShortOfPlaces
 pub mod GateUnless

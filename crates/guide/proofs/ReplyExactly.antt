@@ -22,6 +22,11 @@ use Rattle.guide.specs.Plan.{Reply, Plan, done}
 use Rattle.guide.specs.Guide.{hear}
 use Rattle.guide.specs.Verdicts.{ReplyTable, NACK, SHAPE, PEC}
 
+pub reply-turns : {q : Request} {r : Reply} {m N : ℕ} → ReplyTable q r m N → (20 ≤ m) × (m ≤ 22)
+reply-turns (NACK e) = (omega arith, omega arith)
+reply-turns (SHAPE w) = (omega arith, omega arith)
+reply-turns (PEC w) = (omega arith, omega arith)
+
 module _ (q : Request) (r : Reply) where
   abbrev form : ReplyForm
   form = formOf q (r .kind) (r .bytes)
@@ -62,16 +67,8 @@ module _ (q : Request) (r : Reply) where
 
   -- ---- every reply is in form, or the table has a first
 
-  -- a row is its number's own or one behind it
-  turn-of : {i t : ℕ} → ReplyTable q r i t → (i ≡ 20) ⊎ ((i ≡ 21) ⊎ (i ≡ 22))
-  turn-of (NACK e) = inl refl
-  turn-of (SHAPE w) = inr (inl refl)
-  turn-of (PEC w) = inr (inr refl)
-
   not-under : {i t : ℕ} → i < 20 → ReplyTable q r i t → ⊥
-  not-under h (NACK e) = omega arith
-  not-under h (SHAPE w) = omega arith
-  not-under h (PEC w) = omega arith
+  not-under h row = omega (arith, reply-turns row)
 
   no-nack : 1 ≤ r .kind → {i t : ℕ} → i < 21 → ReplyTable q r i t → ⊥
   no-nack k h (NACK e) = omega arith

@@ -1,5 +1,6 @@
 -- 28 alone: what a session that ends with it has read passes 23 to 27, and shows too few places. Assumes nothing.
 use mathlib.Core.Path.{_≡_, refl}
+use mathlib.Core.Logic.{_⊎_, inl, inr, ⊎-elim}
 use mathlib.Core.List.{List}
 use Prim.Native.Nat.{ℕ, _+_, _≤_, _<_}
 use native.Mathlib.Omega.{arith}
@@ -13,58 +14,45 @@ use Rattle.guide.specs.Terms.{Terms}
 use Rattle.guide.specs.Judged.{fitOf}
 use Rattle.guide.specs.Plan.{Reply}
 use Rattle.guide.specs.Matched.{Exchange, Heard, Fits}
-use Rattle.guide.specs.Verdicts.{ReplyTable, NACK, SHAPE, PEC, FitTable, COUNTER, IDENTITY, FLAG, OLD, KIND, PLACES}
+use Rattle.guide.specs.Verdicts.{FitTable, PLACES}
 use Rattle.guide.specs.Course.{Content, Said, Now, over, opened, Judged, unfit, PROGRAM, BANKS, MISMATCH, DONE, Course, waits, refused, judged}
 use Rattle.guide.proofs.JudgedExactly.{judged-exactly}
 use Rattle.guide.proofs.FitExactly.{fit-first, fit-none}
+use Rattle.guide.proofs.FitRows.{carried}
+use Rattle.guide.proofs.ReplyExactly.{reply-turns}
 
 module _ (target : Target) (kept : ℕ) (read : Words) where
   -- a file for the same device that asks for no place: to it no row but those of 23 to 27 can apply
   abbrev pub asksNone : Target
   asksNone = record { kind = target .kind; identity = target .identity; configs = 0 }
 
-  lower : {m N : ℕ} → m < 28 → FitTable target kept read m N → FitTable asksNone 0 read m N
-  lower h (COUNTER x) = COUNTER x
-  lower h (IDENTITY f) = IDENTITY f
-  lower h (FLAG f) = FLAG f
-  lower h (OLD x) = OLD x
-  lower h (KIND kind w f) = KIND kind w f
-  lower h (PLACES x) = absurd (let y : ⊥ = omega arith in y)
+  -- a row of the file's applies to it too, or it is that of 28
+  lower : {m N : ℕ} → FitTable target kept read m N → FitTable asksNone 0 read m N ⊎ ((28 ≤ m) × (read .counter < target .configs + kept))
+  lower row = ⊎-elim (λ x. inl (x .1)) (λ x. inr (omega (arith, x .0), x .2)) (carried {u = asksNone} refl refl row)
 
   raise : {m N : ℕ} → FitTable asksNone 0 read m N → (m < 28) × FitTable target kept read m N
-  raise (COUNTER x) = (omega arith, COUNTER x)
-  raise (IDENTITY f) = (omega arith, IDENTITY f)
-  raise (FLAG f) = (omega arith, FLAG f)
-  raise (OLD x) = (omega arith, OLD x)
-  raise (KIND kind w f) = (omega arith, KIND kind w f)
-  raise (PLACES x) = absurd (let y : ⊥ = omega arith in y)
-
-  too-few : {m N : ℕ} → FitTable target kept read m N → 28 ≤ m → read .counter < target .configs + kept
-  too-few (COUNTER x) h = absurd (let y : ⊥ = omega arith in y)
-  too-few (IDENTITY f) h = absurd (let y : ⊥ = omega arith in y)
-  too-few (FLAG f) h = absurd (let y : ⊥ = omega arith in y)
-  too-few (OLD x) h = absurd (let y : ⊥ = omega arith in y)
-  too-few (KIND kind w f) h = absurd (let y : ⊥ = omega arith in y)
-  too-few (PLACES x) h = x
+  raise row = ⊎-elim (λ x. x) (λ x. absurd (let y : ⊥ = omega (arith, x .2) in y)) (carried {u = target} refl refl row)
 
   pub short-passes : {N : ℕ} → First (FitTable target kept read) 28 N → Fits asksNone 0 read × (read .counter < target .configs + kept)
-  short-passes f = (by (fitOf asksNone 0 read) refl, too-few (f .applies) (omega arith))
+  short-passes {N} f = (by (fitOf asksNone 0 read) refl, few (lower (f .applies)))
     where
       by : (x : Fit) → fitOf asksNone 0 read ≡ x → Fits asksNone 0 read
       by Matched e = judged-exactly asksNone 0 read .matches e
       by (Fails r) e = let x = raise (fit-first asksNone 0 read r e .applies) in absurd (f .none _ _ (x .0) (x .1))
 
+      few : FitTable asksNone 0 read 28 N ⊎ ((28 ≤ 28) × (read .counter < target .configs + kept)) → read .counter < target .configs + kept
+      few (inl row) = absurd (let y : ⊥ = omega (arith, raise row .0) in y)
+      few (inr x) = x .1
+
   pub passes-short : Fits asksNone 0 read → read .counter < target .configs + kept → First (FitTable target kept read) 28 0
   passes-short f few =
       let passes = judged-exactly asksNone 0 read .passes f in
-      record { applies = PLACES few; none = λ i t h row. fit-none asksNone 0 read passes i t (lower h row) }
+      record {
+        applies = PLACES few;
+        none = λ i t h row. ⊎-elim (fit-none asksNone 0 read passes i t) (λ x. omega (arith, x .0)) (lower row);
+      }
 
 -- ---- of a course that ends with 28
-
-reply-early : {q : Request} {r : Reply} {m N : ℕ} → ReplyTable q r m N → m ≤ 22
-reply-early (NACK e) = omega arith
-reply-early (SHAPE e) = omega arith
-reply-early (PEC e) = omega arith
 
 pub record Ends28 (T : Terms) (c : Content) (rs : List Reply) : Type 0 where
   pub said : Said
@@ -82,5 +70,5 @@ module _ {T : Terms} {c : Content} {rs : List Reply} where
 
   pub course-28 : {x : Now} {qs : List Request} → Course T c rs x qs → x ≡ over 28 0 → Ends28 T c rs
   course-28 (waits q o) e = let z : _≡_ {A = ℕ} 0 1 = cc in absurd (let y : ⊥ = omega arith in y)
-  course-28 (refused q r later o m N f) e = let k : m ≡ 28 = cc in absurd (let y : ⊥ = omega (arith, reply-early (f .applies)) in y)
+  course-28 (refused q r later o m N f) e = let k : m ≡ 28 = cc in absurd (let y : ⊥ = omega (arith, reply-turns (f .applies)) in y)
   course-28 (judged xs left m N h j) e = let k : m ≡ 28 = cc in let z : N ≡ 0 = cc in judged-28 left h j k z
