@@ -32,7 +32,6 @@ use Rattle.demands.specs.Demands.{contentIn, reportFor}
 use Rattle.demands.specs.Rules.{out, reported, Demanded, withRule, SameUnderBoth, RulesAgree}
 use Rattle.session.proofs.Laws.{begin-answered, begin-not}
 use Rattle.demands.proofs.SettingsSay.{allowed-is, refused-sends}
-use Rattle.demands.proofs.Demand2.{demand2}
 use Rattle.demands.proofs.SessionTheorem.{session-theorem}
 
 -- a refused start answers the same whatever follows
