@@ -5,16 +5,19 @@ use mathlib.Core.List.{List, [], _∷_}
 use Prim.Native.Nat.{ℕ}
 use lib.ListN.{take}
 use Rattle.bus.specs.declared.Request.{Request}
-use Rattle.bus.specs.Bus.{noRequest, readOf, reserved, writeOf, writeWith}
+use Rattle.bus.specs.Bus.{noRequest, readAddress, readOf, reserved, writeOf, writeWith}
 use Rattle.bus.specs.ReplyForm.{formOf}
 use Rattle.promise.specs.One.{One}
 use Rattle.promise.proofs.Equal.{one-answer}
 
-pub one-Bus-write-with : (table : List ℕ) (address command count a b c d : ℕ) → One (λ r. r ≡ writeWith table address command (take count (a ∷ b ∷ c ∷ d ∷ [])))
-one-Bus-write-with table address command count a b c d = one-answer _
+pub one-Bus-write-with : (address : ℕ) (table : List ℕ) (command count a b c d : ℕ) → One (λ r. r ≡ writeWith address table command (take count (a ∷ b ∷ c ∷ d ∷ [])))
+one-Bus-write-with address table command count a b c d = one-answer _
 
 pub one-Bus-write : (address command count a b c d : ℕ) → One (λ r. r ≡ writeOf address command (take count (a ∷ b ∷ c ∷ d ∷ [])))
 one-Bus-write address command count a b c d = one-answer _
+
+pub one-Bus-read-address : (address : ℕ) → One (λ r. r ≡ readAddress address)
+one-Bus-read-address address = one-answer _
 
 pub one-Bus-read : (address command count : ℕ) → One (λ r. r ≡ readOf address command count)
 one-Bus-read address command count = one-answer _

@@ -1,11 +1,12 @@
-// The bus: its codes and addresses, the requests, and the form of a reply.
+// The bus: its codes and registers, the requests, and the form of a reply. It knows no device: every request is made for an address
+// that it is given (document 02, R-2).
 ghost use mathlib.Core.Path.{_≡_};
 ghost use mathlib.Core.List.{[], _∷_};
 ghost use mathlib.Core.Bool.{false};
 ghost use Prim.Native.Nat.{_+_, _≤_};
 ghost use lib.ListN.{length, take};
 ghost use Rattle.bus.specs.declared.Request.{Request};
-ghost use Rattle.bus.specs.Bus.{framed, writeOf, writeWith, readOf, noRequest, reserved};
+ghost use Rattle.bus.specs.Bus.{framed, writeOf, writeWith, readAddress, readOf, noRequest, reserved};
 ghost use Rattle.bus.specs.ReplyForm.{wordOf, sealedOf, readForm, formOf};
 
 // What is handed to the host: eight bytes, of which `used` are sent or, of a read, ask; the others are zeros.
@@ -19,11 +20,6 @@ pub struct Request {
 pub struct Bus {}
 
 impl Bus {
-    // The address that the lines of a file carry, and the one that it is read by.
-    pub const WRITE: u8 = 0xC0;
-
-    pub const READ: u8 = 0xC1;
-
     // Command codes. The guide's direct memory access is three: C7 sets the register's address, C5 reads or writes there, C6 does
     // and moves the address on by one, which is its sequential access.
     pub const POINT: u8 = 0xC7;
@@ -60,8 +56,8 @@ impl Bus {
     // A write of the first `count` of four data bytes, with the PEC of all that goes out before it, by a lent table: a caller that
     // has made the table already does not make it again.
     pub fn write_with(
-        table: &[u8; 256],
         address: u8,
+        table: &[u8; 256],
         command: u8,
         count: usize,
         a: u8,
@@ -69,7 +65,7 @@ impl Bus {
         c: u8,
         d: u8,
     ) -> Request
-        ensures { λ r. ⌜ r ≡ writeWith (now (table .entry)) address command (take count (a ∷ b ∷ c ∷ d ∷ [])) ⌝ }
+        ensures { λ r. ⌜ r ≡ writeWith address (now (table .entry)) command (take count (a ∷ b ∷ c ∷ d ∷ [])) ⌝ }
     {
         let body = [address, command, a, b, c, d];
         if count < 4 {
@@ -86,14 +82,21 @@ impl Bus {
         ensures { λ r. ⌜ r ≡ writeOf address command (take count (a ∷ b ∷ c ∷ d ∷ [])) ⌝ }
     {
         let table = pec::table();
-        Bus::write_with(&table, address, command, count, a, b, c, d)
+        Bus::write_with(address, &table, command, count, a, b, c, d)
+    }
+
+    // The address that a device is read by, one more than the one that it is written to by.
+    pub fn read_address(address: u8) -> u8
+        ensures { λ r. ⌜ r ≡ readAddress address ⌝ }
+    {
+        ((address as u16 + 1) % 256) as u8
     }
 
     // A read whose reply has so many bytes: 5 for a register, 6 for a block. The count is no byte of the bus.
     pub fn read(address: u8, command: u8, count: u8) -> Request
         ensures { λ r. ⌜ r ≡ readOf address command count ⌝ }
     {
-        let again = ((address as u16 + 1) % 256) as u8;
+        let again = Bus::read_address(address);
         Request {
             bytes: [address, command, again, count, 0, 0, 0, 0],
             used: 4,

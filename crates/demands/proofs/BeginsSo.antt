@@ -37,8 +37,8 @@ module _ (s : Session) where
   of-first : (Q : Handed → Type 0) → ((g : Awaited) (q : Request) → Q (putOf s g q)) → Q (firstOf s)
   unfolding firstOf
   of-first Q f =
-      by Q (s .settings .wanted) (putOf s CaptureAt (pointTo 0xA2 0x00)) (putOf s CounterAt (pointTo 0x35 0x00)) (λ e. f CaptureAt (pointTo 0xA2 0x00))
-      (λ e. f CounterAt (pointTo 0x35 0x00))
+      by Q (s .settings .wanted) (putOf s CaptureAt (pointTo (s .settings .address) 0xA2 0x00)) (putOf s CounterAt (pointTo (s .settings .address) 0x35 0x00)) (λ e. f CaptureAt (pointTo (s .settings .address) 0xA2 0x00))
+      (λ e. f CounterAt (pointTo (s .settings .address) 0x35 0x00))
 
 module _ (S : Settings) where
   -- an accepted file's begin awaits a reply

@@ -22,22 +22,23 @@ use Rattle.guide.specs.Requests.{lineRequest}
 use Rattle.guide.specs.Statements.{isBurnMark, burnsIn, beforeBurn, AllInForm}
 use Rattle.guide.specs.Statements as said
 use Rattle.guide.proofs.Through.{asked}
-use Rattle.demands.specs.Headline.{asItStands, allAsTheyStand}
-use Rattle.demands.proofs.LinesAsTheyStand.{line-stands}
+use Rattle.guide.specs.Wire.{Wire, RightAt}
+use Rattle.guide.proofs.LineBytes.{line-out}
+use Rattle.demands.specs.Headline.{linesOut}
 
--- lines as they stand, from number i on
-unfoldable pub marked : ℕ → List (List ℕ) → List Asked
-marked i [] = []
-marked i (v ∷ vs) = asked (fileLine i) (asItStands v) ∷ marked (i + 1) vs
+-- lines on the wire, from number i on
+unfoldable pub marked : Wire → ℕ → List (List ℕ) → List Asked
+marked W i [] = []
+marked W i (v ∷ vs) = asked (fileLine i) (W .line v) ∷ marked W (i + 1) vs
 
-pub marked-bare : (i : ℕ) (vs : List (List ℕ)) → bare (marked i vs) ≡ allAsTheyStand vs
-unfolding bare marked allAsTheyStand
-marked-bare i [] = refl
-marked-bare i (v ∷ vs) = ap (λ (l : List Request). asItStands v ∷ l) (marked-bare (i + 1) vs)
+pub marked-bare : (W : Wire) (i : ℕ) (vs : List (List ℕ)) → bare (marked W i vs) ≡ linesOut W vs
+unfolding bare marked linesOut
+marked-bare W i [] = refl
+marked-bare W i (v ∷ vs) = ap (λ (l : List Request). W .line v ∷ l) (marked-bare W (i + 1) vs)
 
-module _ (n : ℕ) (rest : Plan) where
+module _ {address : ℕ} {W : Wire} (right : RightAt address W) (n : ℕ) (rest : Plan) where
   abbrev out : ℕ → List (List ℕ) → List Reply → List Asked
-  out i ts rs = requests (lines i (linesAs ts) rest) rs
+  out i ts rs = requests (lines address i (linesAs ts) rest) rs
 
   pub record Reach (i : ℕ) (ts vs : List (List ℕ)) (rs : List Reply) : Type 0 where
     pub sofar : List (List ℕ)
@@ -45,13 +46,13 @@ module _ (n : ℕ) (rest : Plan) where
     pub behind : List Asked
     pub values : vs ≡ sofar ++ (last ∷ [])
     pub last-is : last ≡ getD vs (length vs - 1) []
-    pub list : out i ts rs ≡ marked i sofar ++ (asked (fileLine n) (asItStands last) ∷ behind)
-    pub cut : beforeBurn n (out i ts rs) ≡ marked i sofar
-    pub form : AllInForm (marked i sofar) rs
+    pub list : out i ts rs ≡ marked W i sofar ++ (asked (fileLine n) (W .line last) ∷ behind)
+    pub cut : beforeBurn n (out i ts rs) ≡ marked W i sofar
+    pub form : AllInForm (marked W i sofar) rs
 
   -- the request of line i as the guide has it
   abbrev Stands : ℕ → List ℕ → List ℕ → Type 0
-  Stands i t v = lineRequest (lineOf (valuesOf digitVal t)) ≡ asItStands v
+  Stands i t v = lineRequest address (lineOf (valuesOf digitVal t)) ≡ W .line v
 
   last-line : (i : ℕ) (t v : List ℕ) → Stands i t v → i ≡ n → (rs : List Reply) → Reach i (t ∷ []) (v ∷ []) rs
   unfolding linesAs lines requests marked beforeBurn isBurnMark
@@ -61,7 +62,7 @@ module _ (n : ℕ) (rest : Plan) where
       record {
         sofar = [];
         last = v;
-        behind = requests (hear (formOf (lineRequest (lineOf (valuesOf digitVal t))) (r .kind) (r .bytes)) (λ _. rest)) rs;
+        behind = requests (hear (formOf (lineRequest address (lineOf (valuesOf digitVal t))) (r .kind) (r .bytes)) (λ _. rest)) rs;
         values = refl;
         last-is = refl;
         list = rw (s, e);
@@ -73,7 +74,7 @@ module _ (n : ℕ) (rest : Plan) where
     abbrev all : List Reply → List Asked
     all rs = out i (t ∷ t2 ∷ ts) rs
 
-    one-more : (r : Reply) (rs : List Reply) (w : ℕ) → formOf (lineRequest (lineOf (valuesOf digitVal t))) (r .kind) (r .bytes) ≡ Good w
+    one-more : (r : Reply) (rs : List Reply) (w : ℕ) → formOf (lineRequest address (lineOf (valuesOf digitVal t))) (r .kind) (r .bytes) ≡ Good w
         → Reach (i + 1) (t2 ∷ ts) (v2 ∷ vs) rs → Reach i (t ∷ t2 ∷ ts) (v ∷ v2 ∷ vs) (r ∷ rs)
     unfolding linesAs lines requests marked beforeBurn isBurnMark hear
     one-more r rs w e x =
@@ -83,8 +84,8 @@ module _ (n : ℕ) (rest : Plan) where
           behind = x .behind;
           values = ap (λ (l : List (List ℕ)). v ∷ l) (x .values);
           last-is = let k : suc (suc (length vs)) - 1 ≡ suc (suc (length vs) - 1) = omega arith in rw k (x .last-is);
-          list = rw (e, s) (ap (λ (l : List Asked). asked (fileLine i) (asItStands v) ∷ l) (x .list));
-          cut = rw (e, other, s) (ap (λ (l : List Asked). asked (fileLine i) (asItStands v) ∷ l) (x .cut));
+          list = rw (e, s) (ap (λ (l : List Asked). asked (fileLine i) (W .line v) ∷ l) (x .list));
+          cut = rw (e, other, s) (ap (λ (l : List Asked). asked (fileLine i) (W .line v) ∷ l) (x .cut));
           form = said.more _ _ r rs w (rw s at e) (x .form);
         }
 
@@ -93,9 +94,9 @@ module _ (n : ℕ) (rest : Plan) where
         → Reach i (t ∷ t2 ∷ ts) (v ∷ v2 ∷ vs) rs
     unfolding linesAs lines requests burnsIn isBurnMark hear
     on-line [] h go = absurd (let y : ⊥ = omega (arith, rw other at h) in y)
-    on-line (r ∷ rs) h go = by-form (formOf (lineRequest (lineOf (valuesOf digitVal t))) (r .kind) (r .bytes)) refl
+    on-line (r ∷ rs) h go = by-form (formOf (lineRequest address (lineOf (valuesOf digitVal t))) (r .kind) (r .bytes)) refl
       where
-        by-form : (x : ReplyForm) → formOf (lineRequest (lineOf (valuesOf digitVal t))) (r .kind) (r .bytes) ≡ x
+        by-form : (x : ReplyForm) → formOf (lineRequest address (lineOf (valuesOf digitVal t))) (r .kind) (r .bytes) ≡ x
             → Reach i (t ∷ t2 ∷ ts) (v ∷ v2 ∷ vs) (r ∷ rs)
         by-form Unanswered e = absurd (let y : ⊥ = omega (arith, rw (other, e) at h) in y)
         by-form Misshapen e = absurd (let y : ⊥ = omega (arith, rw (other, e) at h) in y)
@@ -109,7 +110,7 @@ module _ (n : ℕ) (rest : Plan) where
   stands : (i : ℕ) (t v : List ℕ) (vs : List (List ℕ)) → 5 ≤ i → Spells t v → Formed i (v ∷ vs) → Stands i t v
   stands i t v vs low x f =
       let here : i + 0 ≡ i = omega arith in
-      ap (λ (u : List ℕ). lineRequest (lineOf u)) (spells-values x) ∙ line-stands i v low (rw here at (f 0 (omega arith)))
+      ap (λ (u : List ℕ). lineRequest address (lineOf u)) (spells-values x) ∙ line-out address W right i v low (rw here at (f 0 (omega arith)))
 
   pub reach : {ts vs : List (List ℕ)} → Spelled ts vs → (i : ℕ) → 5 ≤ i → Formed i vs → i + length vs ≡ n + 1 → 1 ≤ length vs → (rs : List Reply)
       → 1 ≤ burnsIn n (out i ts rs) → Reach i ts vs rs

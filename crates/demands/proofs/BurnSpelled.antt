@@ -6,6 +6,7 @@ use mathlib.Core.Bool.{Bool, true, false, cond}
 use mathlib.Core.List.{List, [], _∷_, _++_, List·Memᴰ, List·Memᴰ·head, List·Memᴰ·tail, List·Memᴰ·cases-cons, List·Memᴰ·not-nil}
 use Prim.Native.Nat.{ℕ, suc, _+_, _≤_}
 use native.Mathlib.Omega.{arith}
+use borrow.Author.Tests.{eq-eqb}
 use Rattle.bus.specs.declared.Request.{Request}
 use Rattle.bus.specs.declared.ReplyForm.the-variants.{Good}
 use Rattle.bus.specs.Bus.{eight, framed, writeOf, readOf}
@@ -16,71 +17,73 @@ use Rattle.guide.specs.Plan.{Reply, Asked, requests, bare}
 use Rattle.guide.specs.Matched.{askedIn, opening}
 use Rattle.guide.specs.Guide.{writeLinesOf, guideFor}
 use Rattle.guide.specs.Requests.{lineRequest}
-use Rattle.guide.specs.Statements.{sameBytes, burnBytes, spellings, AllInForm}
+use Rattle.guide.specs.Statements.{sameBytes, spellings, AllInForm}
 use Rattle.guide.specs.Statements as said
 use Rattle.guide.proofs.Every.{every-request, Other, point, word, identity, revision, set, command, load, guide-every}
-use Rattle.demands.specs.Headline.{burn, Answered, none, more}
+use Rattle.guide.proofs.LineBytes.{burning}
+use Rattle.guide.proofs.MarksTell.{same-self}
+use Rattle.demands.specs.Headline.{Answered, none, more}
 use Rattle.guide.specs.Terms.{Terms}
 use Rattle.summary.specs.declared.Summary.{Summary}
 
 -- ---- the burn's bytes
 
-pub spellings-append : (a b : List Asked) → spellings (a ++ b) ≡ spellings a + spellings b
-unfolding spellings
-spellings-append [] b = omega arith
-spellings-append (q ∷ a) b = one (sameBytes (q .request .bytes) (eight burnBytes)) (spellings-append a b)
-  where
-    one : (c : Bool) → spellings (a ++ b) ≡ spellings a + spellings b
-        → cond c (suc (spellings (a ++ b))) (spellings (a ++ b)) ≡ cond c (suc (spellings a)) (spellings a) + spellings b
-    one true e = omega arith
-    one false e = e
+module _ (burn : Request) where
+  pub spellings-append : (a b : List Asked) → spellings burn (a ++ b) ≡ spellings burn a + spellings burn b
+  unfolding spellings
+  spellings-append [] b = omega arith
+  spellings-append (q ∷ a) b = one (sameBytes (q .request .bytes) (burn .bytes)) (spellings-append a b)
+    where
+      one : (c : Bool) → spellings burn (a ++ b) ≡ spellings burn a + spellings burn b
+          → cond c (suc (spellings burn (a ++ b))) (spellings burn (a ++ b)) ≡ cond c (suc (spellings burn a)) (spellings burn a) + spellings burn b
+      one true e = omega arith
+      one false e = e
 
-pub burn-spelled : sameBytes (burn .bytes) (eight burnBytes) ≡ true
-unfolding sameBytes eight
-burn-spelled = refl
+  pub mem-spelled : (qs : List Asked) → List·Memᴰ burn (bare qs) → 1 ≤ spellings burn qs
+  unfolding bare spellings
+  mem-spelled [] m = absurd (List·Memᴰ·not-nil m)
+  mem-spelled (q ∷ qs) m =
+      ⊎-elim
+      (λ (e : burn ≡ q .request). let s : sameBytes (q .request .bytes) (burn .bytes) ≡ true = rw (← e) (same-self (burn .bytes)) in rw s (omega arith))
+      (λ n. one (sameBytes (q .request .bytes) (burn .bytes)) (mem-spelled qs n)) (List·Memᴰ·cases-cons m)
+    where
+      one : (c : Bool) → 1 ≤ spellings burn qs → 1 ≤ cond c (suc (spellings burn qs)) (spellings burn qs)
+      one true h = omega arith
+      one false h = h
 
-pub mem-spelled : (qs : List Asked) → List·Memᴰ burn (bare qs) → 1 ≤ spellings qs
-unfolding bare spellings
-mem-spelled [] m = absurd (List·Memᴰ·not-nil m)
-mem-spelled (q ∷ qs) m =
-    ⊎-elim
-    (λ (e : burn ≡ q .request). let s : sameBytes (q .request .bytes) (eight burnBytes) ≡ true = rw (← e) burn-spelled in rw s (omega arith))
-    (λ n. one (sameBytes (q .request .bytes) (eight burnBytes)) (mem-spelled qs n)) (List·Memᴰ·cases-cons m)
-  where
-    one : (c : Bool) → 1 ≤ spellings qs → 1 ≤ cond c (suc (spellings qs)) (spellings qs)
-    one true h = omega arith
-    one false h = h
+  -- ---- the same of bare requests
 
--- ---- the same of bare requests: those of steps 1 and 2 do not spell it, nor does a beginning of them
+  unfoldable spelt : List Request → ℕ
+  spelt [] = 0
+  spelt (q ∷ qs) = cond (sameBytes (q .bytes) (burn .bytes)) (suc (spelt qs)) (spelt qs)
 
-unfoldable spelt : List Request → ℕ
-spelt [] = 0
-spelt (q ∷ qs) = cond (sameBytes (q .bytes) (eight burnBytes)) (suc (spelt qs)) (spelt qs)
+  bare-spelt : (qs : List Asked) → spellings burn qs ≡ spelt (bare qs)
+  unfolding spellings spelt bare
+  bare-spelt [] = refl
+  bare-spelt (q ∷ qs) = rw (bare-spelt qs)
 
-bare-spelt : (qs : List Asked) → spellings qs ≡ spelt (bare qs)
-unfolding spellings spelt bare
-bare-spelt [] = refl
-bare-spelt (q ∷ qs) = rw (bare-spelt qs)
+  spelt-more : (a b : List Request) → spelt a ≤ spelt (a ++ b)
+  unfolding spelt
+  spelt-more [] b = omega arith
+  spelt-more (q ∷ a) b = one (sameBytes (q .bytes) (burn .bytes)) (spelt-more a b)
+    where
+      one : (c : Bool) → spelt a ≤ spelt (a ++ b) → cond c (suc (spelt a)) (spelt a) ≤ cond c (suc (spelt (a ++ b))) (spelt (a ++ b))
+      one true h = omega arith
+      one false h = h
 
-spelt-more : (a b : List Request) → spelt a ≤ spelt (a ++ b)
-unfolding spelt
-spelt-more [] b = omega arith
-spelt-more (q ∷ a) b = one (sameBytes (q .bytes) (eight burnBytes)) (spelt-more a b)
-  where
-    one : (c : Bool) → spelt a ≤ spelt (a ++ b) → cond c (suc (spelt a)) (spelt a) ≤ cond c (suc (spelt (a ++ b))) (spelt (a ++ b))
-    one true h = omega arith
-    one false h = h
+-- ---- those of steps 1 and 2 do not spell it, nor does a beginning of them
 
-opening-spelt : (wanted : Bool) (captured : ℕ) (read : Words) → spelt (askedIn (opening wanted captured read)) ≡ 0
+opening-spelt : (address : ℕ) (wanted : Bool) (captured : ℕ) (read : Words) → spelt (burning address) (askedIn (opening address wanted captured read)) ≡ 0
 unfolding spelt askedIn opening writeOf readOf framed eight sameBytes
-opening-spelt true captured read = refl
-opening-spelt false captured read = refl
+opening-spelt address true captured read = rw (eq-eqb address address refl)
+opening-spelt address false captured read = rw (eq-eqb address address refl)
 
-pub opening-none : (qs : List Asked) (rest : List Request) (wanted : Bool) (captured : ℕ) (read : Words)
-    → askedIn (opening wanted captured read) ≡ bare qs ++ rest → spellings qs ≡ 0
-opening-none qs rest wanted captured read e =
-    let whole : spelt (bare qs ++ rest) ≡ 0 = ap spelt (sym e) ∙ opening-spelt wanted captured read in
-    omega (arith, bare-spelt qs, spelt-more (bare qs) rest)
+pub opening-none : (address : ℕ) (qs : List Asked) (rest : List Request) (wanted : Bool) (captured : ℕ) (read : Words)
+    → askedIn (opening address wanted captured read) ≡ bare qs ++ rest → spellings (burning address) qs ≡ 0
+opening-none address qs rest wanted captured read e =
+    let burn = burning address in
+    let whole : spelt burn (bare qs ++ rest) ≡ 0 = ap (spelt burn) (sym e) ∙ opening-spelt address wanted captured read in
+    omega (arith, bare-spelt burn qs, spelt-more burn (bare qs) rest)
 
 -- ---- replies in form
 

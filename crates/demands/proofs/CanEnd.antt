@@ -11,6 +11,8 @@ use Rattle.image.proofs.SummarySays.{summary-says}
 use Rattle.bus.specs.declared.Request.{Request}
 use Rattle.bus.specs.Bus.{writeOf}
 use Rattle.guide.specs.Terms.{Terms}
+use Rattle.guide.specs.Wire.{RightAt, inUse, burnTo}
+use Rattle.guide.proofs.LineBytes.{in-use}
 use Rattle.guide.specs.Plan.{Reply}
 use Rattle.guide.specs.Guide.{crcIn, writeLinesOf}
 use Rattle.guide.specs.Matched.{Exchange, Heard, askedIn}
@@ -18,7 +20,7 @@ use Rattle.guide.specs.Course.{heard3, heard4, heard6, configsIn, contentOf, Sa
 use Rattle.guide.proofs.Banks.{ones, ones-small, ones-right}
 use Rattle.session.specs.declared.Settings.{Settings}
 use Rattle.session.specs.Terms.{keeping}
-use Rattle.demands.specs.Headline.{Allowed, Keeps, burn}
+use Rattle.demands.specs.Headline.{Allowed, Keeps}
 use Rattle.demands.specs.Demands.{OfBytes, CanEnd, contentIn, reportFor}
 use Rattle.demands.proofs.SettingsSay.{kept-few}
 use Rattle.demands.proofs.PremisesGive.{facts}
@@ -53,6 +55,9 @@ module _ (S : Settings) {kept : ℕ} (r : Keeps (S .rule) kept) {text : List ℕ
   abbrev file : Summary
   file = checkOf text .summary
 
+  right : RightAt (S .address) (inUse (S .address))
+  right = in-use (S .address)
+
   few : file .configs ≤ 8
   few = facts (premises S r m a) .few
 
@@ -67,15 +72,15 @@ module _ (S : Settings) {kept : ℕ} (r : Keeps (S .rule) kept) {text : List ℕ
   w = record { captured = 0; read = fittingWords file; busy = []; last = 1; banks = ones (file .configs) }
 
   abbrev all : List Exchange
-  all = shown T (contentOf file text) w (heard6 T (configsIn file (file .configs) 0))
+  all = shown T (contentOf (T .address) file text) w (heard6 T (configsIn file (file .configs) 0))
 
   able : Able all
   unfolding writeOf heard4 w
   able =
-      able-both (able-opening (S .wanted) (fittingWords file) (omega (arith, counter-is (file .kind))) identity-lt (omega arith) (omega arith))
-      (able-both (able-lines (writeLinesOf text))
-      (and (can-write _ _) (and (can-read 1 (omega arith)) (and (can-write _ _)
-      (and (can-read (ones (file .configs)) (ones-small (file .configs) 8 few))
+      able-both (able-opening (S .address) (S .wanted) (fittingWords file) (omega (arith, counter-is (file .kind))) identity-lt (omega arith) (omega arith))
+      (able-both (able-lines (S .address) (writeLinesOf text))
+      (and (can-write _ _) (and (can-read (S .address) 1 (omega arith)) (and (can-write _ _)
+      (and (can-read (S .address) (ones (file .configs)) (ones-small (file .configs) 8 few))
       (able-crcs T file (file .configs) 0 (λ i h. crc-lt i (omega arith))))))))
 
   rs : List Reply
@@ -89,7 +94,7 @@ module _ (S : Settings) {kept : ℕ} (r : Keeps (S .rule) kept) {text : List ℕ
   unfolding rs
   possible = able-answered able .2
 
-  reported : Reported T (contentOf file text) w
+  reported : Reported T (contentOf (T .address) file text) w
   unfolding w
   reported =
       record {
@@ -105,19 +110,19 @@ module _ (S : Settings) {kept : ℕ} (r : Keeps (S .rule) kept) {text : List ℕ
         right = ones-right (file .configs);
       }
 
-  goes : Course T (contentIn m) rs (over 0 0) (askedIn all)
-  goes = rw (content-is m) at (judged all [] 0 0 heard (DONE w reported))
+  goes : Course T (contentIn (inUse (S .address)) m) rs (over 0 0) (askedIn all)
+  goes = rw (content-is m right) at (judged all [] 0 0 heard (DONE w reported))
 
   -- the burn is among the lines
-  burn-asked : List·Memᴰ burn (askedIn all)
+  burn-asked : List·Memᴰ (burnTo (S .address)) (askedIn all)
   burn-asked =
-      let last = burn-is-last m in
-      let lines = lines-are m ∙ last .1 in
-      line-asked (opened T (contentOf file text) w) _ _ (rw lines (Memᴰ·append-right (last .0) (List·Memᴰ·head refl)))
+      let last = burn-is-last right m in
+      let lines = lines-are m right ∙ last .1 in
+      line-asked (opened T (contentOf (T .address) file text) w) _ _ (rw lines (Memᴰ·append-right (last .0) (List·Memᴰ·head refl)))
 
   pub can-end : CanEnd S text
   can-end =
-      let d = demand2 S r m a rs in
+      let d = demand2 S right r m a rs in
       let o = d .only (over 0 0) (askedIn all) goes in
       record {
         replies = rs;

@@ -19,24 +19,25 @@ use Rattle.image.proofs.SummarySays.{summary-says}
 use Rattle.guide.specs.Requests.{lineRequest}
 use Rattle.guide.specs.Guide.{targetOf, idIn, crcIn, linesAs, writeLinesOf}
 use Rattle.guide.specs.Course.{lineRequests, configsIn, contentOf}
-use Rattle.demands.specs.Headline.{asItStands, allAsTheyStand, targetIn}
+use Rattle.guide.specs.Wire.{Wire, RightAt}
+use Rattle.guide.proofs.LineBytes.{line-out}
+use Rattle.demands.specs.Headline.{linesOut, targetIn}
 use Rattle.demands.specs.Demands.{configsBy, contentIn}
-use Rattle.demands.proofs.LinesAsTheyStand.{line-stands}
 
 pub spelled-drop : (k : ℕ) {ts vs : List (List ℕ)} → Spelled ts vs → Spelled (drop k ts) (drop k vs)
 spelled-drop zero s = s
 spelled-drop (suc k) none = none
 spelled-drop (suc k) (line t v ts vs x s) = spelled-drop k s
 
--- lines from number i on go out as they stand
-lines-stand : (i : ℕ) → 5 ≤ i → {ts vs : List (List ℕ)} → Spelled ts vs → ((j : ℕ) → j < length vs → LineForm (i + j) (getD vs j []))
-    → lineRequests (linesAs ts) ≡ allAsTheyStand vs
-unfolding linesAs lineRequests allAsTheyStand
-lines-stand i h none f = refl
-lines-stand i h (line t v ts vs x s) f =
+-- lines from number i on go out as they are on the wire
+lines-go : {address : ℕ} {W : Wire} → RightAt address W → (i : ℕ) → 5 ≤ i → {ts vs : List (List ℕ)} → Spelled ts vs
+    → ((j : ℕ) → j < length vs → LineForm (i + j) (getD vs j [])) → lineRequests address (linesAs ts) ≡ linesOut W vs
+unfolding linesAs lineRequests linesOut
+lines-go right i h none f = refl
+lines-go {address} {W} right i h (line t v ts vs x s) f =
     let start : i + 0 ≡ i = omega arith in
-    let here : lineRequest (lineOf v) ≡ asItStands v = line-stands i v h (rw start at (f 0 (omega arith))) in
-    let rest = lines-stand (i + 1) (omega arith) s (λ j g. let e : i + 1 + j ≡ i + suc j = omega arith in rw e (f (suc j) (omega arith))) in
+    let here : lineRequest address (lineOf v) ≡ W .line v = line-out address W right i v h (rw start at (f 0 (omega arith))) in
+    let rest = lines-go right (i + 1) (omega arith) s (λ j g. let e : i + 1 + j ≡ i + suc j = omega arith in rw e (f (suc j) (omega arith))) in
     rw (spells-values x, here, rest)
 
 module _ {text : List ℕ} (m : Meets text) where
@@ -50,9 +51,9 @@ module _ {text : List ℕ} (m : Meets text) where
       let long = length-drop 4 (m .values) in
       rw (getD-drop 4 (m .values) j []) (rw e at (m .meets .form (5 + j) (omega arith) (omega arith)))
 
-  pub lines-are : lineRequests (writeLinesOf text) ≡ allAsTheyStand (drop 4 (m .values))
+  pub lines-are : {address : ℕ} {W : Wire} → RightAt address W → lineRequests address (writeLinesOf text) ≡ linesOut W (drop 4 (m .values))
   unfolding writeLinesOf
-  lines-are = lines-stand 5 (omega arith) (spelled-drop 4 (spelled-of m)) formed
+  lines-are right = lines-go right 5 (omega arith) (spelled-drop 4 (spelled-of m)) formed
 
   pub target-is : targetOf file ≡ targetIn m
   target-is = let s = summary-says m in rw (s .kind, s .identity, s .configs)
@@ -74,5 +75,5 @@ module _ {text : List ℕ} (m : Meets text) where
   configs-are : configsIn file (file .configs) 0 ≡ configsBy m (m .meets .laid .configs) 0
   configs-are = ap (λ (k : ℕ). configsIn file k 0) (summary-says m .configs) ∙ configs-from (m .meets .laid .configs) 0 (omega arith)
 
-  pub content-is : contentOf file text ≡ contentIn m
-  content-is = rw (target-is, lines-are, configs-are)
+  pub content-is : {address : ℕ} {W : Wire} → RightAt address W → contentOf address file text ≡ contentIn W m
+  content-is right = rw (target-is, lines-are right, configs-are)

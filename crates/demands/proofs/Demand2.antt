@@ -13,6 +13,7 @@ use Rattle.summary.specs.Answers.{refusalTold}
 use Rattle.summary.proofs.Numbers.{refusal-number}
 use Rattle.bus.specs.declared.Request.{Request}
 use Rattle.guide.specs.Terms.{Terms}
+use Rattle.guide.specs.Wire.{Wire, RightAt}
 use Rattle.guide.specs.Plan.{Reply, Outcome, waiting, ended, verdict}
 use Rattle.guide.specs.Matched.{Exchange}
 use Rattle.guide.specs.Guide.{guideFor}
@@ -71,7 +72,8 @@ reports (ended (File r)) h = let n = refusal-number r in early (refusalTold r .n
 reports (ended (Mismatch N)) h = refl
 reports (ended (Halted r)) h = refl
 
-module _ (S : Settings) {kept : ℕ} (r : Keeps (S .rule) kept) {text : List ℕ} (m : Meets text) (a : Allowed (keeping kept S)) where
+module _ (S : Settings) {W : Wire} (right : RightAt (S .address) W) {kept : ℕ} (r : Keeps (S .rule) kept) {text : List ℕ} (m : Meets text)
+    (a : Allowed (keeping kept S)) where
   abbrev T : Terms
   T = keeping kept S
 
@@ -82,20 +84,20 @@ module _ (S : Settings) {kept : ℕ} (r : Keeps (S .rule) kept) {text : List ℕ
   course-of rs = course-exactly T file text (a .some) (facts (premises S r m a) .few) rs
 
   -- of any run that the guide gives
-  by-guide : (rs : List Reply) {out : List Request} {last : Handed} → Guided T file text rs out last → Demand2 T m rs out last
+  by-guide : (rs : List Reply) {out : List Request} {last : Handed} → Guided T file text rs out last → Demand2 W T m rs out last
   by-guide rs g =
       let o = verdict (guideFor T file text) rs in
       let e = course-of rs in
       record {
         now = nowOf o;
         tells = ap reportOf (g .sameAnswer) ∙ reports o (course-late (nowOf o) (e .goes));
-        goes = rw (g .sameRequests) (rw (content-is m) at (e .goes));
-        only = λ x qs c. let k = e .only x qs (rw (content-is m) c) in (k .0, k .1 ∙ sym (g .sameRequests));
+        goes = rw (g .sameRequests) (rw (content-is m right) at (e .goes));
+        only = λ x qs c. let k = e .only x qs (rw (content-is m right) c) in (k .0, k .1 ∙ sym (g .sameRequests));
       }
 
   module _ (rs : List Reply) where
     abbrev Holds : Handed → Type 0
-    Holds start = Demand2 T m rs (sent text start rs) (after text start rs)
+    Holds start = Demand2 W T m rs (sent text start rs) (after text start rs)
 
     pub demand2-start : Holds (startOf S file)
     demand2-start = by-guide rs (guided-start (premises S r m a) rs)

@@ -18,6 +18,7 @@ use Rattle.bus.specs.ReplyForm.{formOf}
 use Rattle.bus.proofs.FormMeans.{good-is}
 use Rattle.guide.specs.declared.Words.{Words}
 use Rattle.guide.specs.Terms.{Terms}
+use Rattle.guide.specs.Wire.{Wire, RightAt}
 use Rattle.guide.specs.Requests.{lineRequest}
 use Rattle.guide.specs.Plan.{Reply, Asked, Plan, Outcome, waiting, ended, requests, bare}
 use Rattle.guide.specs.Guide.{hear, lines, guideFor, targetOf, writeLinesOf}
@@ -37,7 +38,7 @@ use Rattle.session.specs.declared.Answer.the-variants.{BadState}
 use Rattle.session.specs.Begin.{newPosition, freshOf, startOf, beginOf}
 use Rattle.session.specs.Terms.{keeping}
 use Rattle.demands.specs.Runs.{sent, after}
-use Rattle.demands.specs.Headline.{Allowed, Keeps, Answered, allAsTheyStand, burn, targetIn}
+use Rattle.demands.specs.Headline.{Allowed, Keeps, Answered, linesOut, targetIn}
 use Rattle.demands.specs.Headline as head
 use Rattle.demands.specs.Guided.{Premises, answerFor}
 use Rattle.demands.specs.Demands.{contentIn, Demand3}
@@ -68,23 +69,24 @@ answered-behind (matched.none _) a = a
 answered-behind (matched.more x xs r rs left i h) (head.more _ _ _ _ w j a) = answered-behind h a
 
 -- where the lines before the last were answered, it is next
-lines-answered : (i : ℕ) (ls : List Line) (rest : Plan) (before : List Request) (q : Request) (rs : List Reply) → lineRequests ls ≡ before ++ (q ∷ [])
-    → Answered before rs → (behind : List Request) × (bare (requests (lines i ls rest) rs) ≡ before ++ (q ∷ behind))
+lines-answered : (address i : ℕ) (ls : List Line) (rest : Plan) (before : List Request) (q : Request) (rs : List Reply) → lineRequests address ls ≡ before ++ (q ∷ [])
+    → Answered before rs → (behind : List Request) × (bare (requests (lines address i ls rest) rs) ≡ before ++ (q ∷ behind))
 unfolding lineRequests lines requests bare hear
-lines-answered i [] rest [] q rs e a = let z : _≡_ {A = ℕ} 0 1 = cc in absurd (let y : ⊥ = omega arith in y)
-lines-answered i [] rest (b ∷ before) q rs e a = let z : _≡_ {A = ℕ} 0 1 = cc in absurd (let y : ⊥ = omega arith in y)
-lines-answered i (l ∷ ls) rest [] q [] e a = let same : lineRequest l ≡ q = cc in ([], rw same)
-lines-answered i (l ∷ ls) rest [] q (r ∷ rs) e a =
-    let same : lineRequest l ≡ q = cc in
-    let more : List Request = bare (requests (hear (formOf (lineRequest l) (r .kind) (r .bytes)) (λ _. lines (i + 1) ls rest)) rs) in
+lines-answered address i [] rest [] q rs e a = let z : _≡_ {A = ℕ} 0 1 = cc in absurd (let y : ⊥ = omega arith in y)
+lines-answered address i [] rest (b ∷ before) q rs e a = let z : _≡_ {A = ℕ} 0 1 = cc in absurd (let y : ⊥ = omega arith in y)
+lines-answered address i (l ∷ ls) rest [] q [] e a = let same : lineRequest address l ≡ q = cc in ([], rw same)
+lines-answered address i (l ∷ ls) rest [] q (r ∷ rs) e a =
+    let same : lineRequest address l ≡ q = cc in
+    let more : List Request = bare (requests (hear (formOf (lineRequest address l) (r .kind) (r .bytes)) (λ _. lines address (i + 1) ls rest)) rs) in
     (more, ap (λ (x : Request). x ∷ more) same)
-lines-answered i (l ∷ ls) rest (b ∷ before) q _ e (head.more _ _ r rs w j a) =
-    let same : lineRequest l ≡ b = cc in
-    let more : lineRequests ls ≡ before ++ (q ∷ []) = cc in
-    let k = lines-answered (i + 1) ls rest before q rs more a in
+lines-answered address i (l ∷ ls) rest (b ∷ before) q _ e (head.more _ _ r rs w j a) =
+    let same : lineRequest address l ≡ b = cc in
+    let more : lineRequests address ls ≡ before ++ (q ∷ []) = cc in
+    let k = lines-answered address (i + 1) ls rest before q rs more a in
     (k .0, rw (same, good-is j) (ap (λ (l : List Request). b ∷ l) (k .1)))
 
-module _ (S : Settings) {kept : ℕ} (r : Keeps (S .rule) kept) {text : List ℕ} (m : Meets text) (a : Allowed (keeping kept S)) (rs : List Reply) where
+module _ (S : Settings) {W : Wire} (right : RightAt (S .address) W) {kept : ℕ} (r : Keeps (S .rule) kept) {text : List ℕ} (m : Meets text)
+    (a : Allowed (keeping kept S)) (rs : List Reply) where
   abbrev T : Terms
   T = keeping kept S
 
@@ -109,9 +111,9 @@ module _ (S : Settings) {kept : ℕ} (r : Keeps (S .rule) kept) {text : List ℕ
 
   -- the requests of steps 1 and 2, and what went out behind them
   abbrev opens : Matched T (targetIn m) rs → List Request
-  opens w = askedIn (opening (T .wanted) (w .captured) (w .read))
+  opens w = askedIn (opening (T .address) (T .wanted) (w .captured) (w .read))
 
-  behind-opening : (w : Matched T (targetIn m) rs) → out ≡ opens w ++ bare (requests (lines 5 ls (behind T file)) (w .left))
+  behind-opening : (w : Matched T (targetIn m) rs) → out ≡ opens w ++ bare (requests (lines (T .address) 5 ls (behind T file)) (w .left))
   unfolding guideFor was
   behind-opening w =
       let x = reached T file ls rs (was w) in
@@ -120,22 +122,22 @@ module _ (S : Settings) {kept : ℕ} (r : Keeps (S .rule) kept) {text : List ℕ
   -- ---- the gate
 
   unless : Matched T (targetIn m) rs
-      ⊎ ((captured : ℕ) × (read : Words) × (rest : List Request) × (askedIn (opening (T .wanted) captured read) ≡ out ++ rest))
+      ⊎ ((captured : ℕ) × (read : Words) × (rest : List Request) × (askedIn (opening (T .address) (T .wanted) captured read) ≡ out ++ rest))
   unless = by (gate-unless12 T file text (facts P .few) rs)
     where
       by : Matched T (targetOf file) rs ⊎ Begins12 T file text (facts P .few) rs
-          → Matched T (targetIn m) rs ⊎ ((captured : ℕ) × (read : Words) × (rest : List Request) × (askedIn (opening (T .wanted) captured read) ≡ out ++ rest))
+          → Matched T (targetIn m) rs ⊎ ((captured : ℕ) × (read : Words) × (rest : List Request) × (askedIn (opening (T .address) (T .wanted) captured read) ≡ out ++ rest))
       by (inl w) = inl (rw (target-is m) at w)
       by (inr (captured, read, rest, e)) = inr (captured, read, rest, e ∙ ap (λ (l : List Request). l ++ rest) (sym (guided P rs .sameRequests)))
 
   next : (w : Matched T (targetIn m) rs)
-      → (first : Request) × (more : List Request) × (rest : List Request) × (allAsTheyStand (drop 4 (m .values)) ≡ first ∷ more) × (out ≡ opens w ++ (first ∷ rest))
+      → (first : Request) × (more : List Request) × (rest : List Request) × (linesOut W (drop 4 (m .values)) ≡ first ∷ more) × (out ≡ opens w ++ (first ∷ rest))
   unfolding lineRequests bare guideFor was
   next w =
       let g = gate-next T file ls rs (some-line text (facts P)) (was w) in
-      let stand = sym (lines-are m) ∙ ap lineRequests (g .4) in (
-        lineRequest (g .1),
-        lineRequests (g .2),
+      let stand = sym (lines-are m right) ∙ ap (lineRequests (T .address)) (g .4) in (
+        lineRequest (T .address) (g .1),
+        lineRequests (T .address) (g .2),
         bare (g .3),
         stand,
         guided P rs .sameRequests ∙ (ap bare (g .5) ∙ (bare-append (g .0) _ ∙ rw (g .6))),
@@ -143,38 +145,38 @@ module _ (S : Settings) {kept : ℕ} (r : Keeps (S .rule) kept) {text : List ℕ
 
   -- ---- the burn
 
-  once : (w : Matched T (targetIn m) rs) → Answered (opens w ++ burn-is-last m .0) rs
-      → (after : List Request) × (out ≡ (opens w ++ burn-is-last m .0) ++ (burn ∷ after))
+  once : (w : Matched T (targetIn m) rs) → Answered (opens w ++ burn-is-last right m .0) rs
+      → (after : List Request) × (out ≡ (opens w ++ burn-is-last right m .0) ++ (W .burn ∷ after))
   once w a =
-      let before = burn-is-last m .0 in
-      let k = lines-answered 5 ls (behind T file) before burn (w .left) (lines-are m ∙ burn-is-last m .1) (answered-behind (w .came) a) in
+      let before = burn-is-last right m .0 in
+      let k = lines-answered (T .address) 5 ls (behind T file) before (W .burn) (w .left) (lines-are m right ∙ burn-is-last right m .1) (answered-behind (w .came) a) in
       (k .0, behind-opening w ∙ (ap (λ (l : List Request). opens w ++ l) (k .1) ∙ sym (append-assoc (opens w) before _)))
 
   burned-is : after text (beginOf S text) rs .session .burned ≡ leb 1 (burnsIn (file .lines) list)
   unfolding freshOf newPosition
   burned-is = rw (begin-is P) (run P rs .burning ∙ ap (λ k. leb 1 (burnsIn k list)) (sym (lines-count text (facts P))))
 
-  reports : (after text (beginOf S text) rs .session .burned ≡ true) ↔ List·Memᴰ burn out
+  reports : (after text (beginOf S text) rs .session .burned ≡ true) ↔ List·Memᴰ (W .burn) out
   reports = (
-    λ e. let x = may-burn P rs (leb-true 1 _ (sym burned-is ∙ e)) in
-        rw (x .order) (Memᴰ·append-right (askedIn (opening (T .wanted) (x .matched .captured) (x .matched .read))) (Memᴰ·append-right (allAsTheyStand (x .lines)) (List·Memᴰ·head {xs = x .behind} refl))),
-    λ x. burned-is ∙ le-leb 1 _ (rw (spells P rs) at (mem-spelled list (rw (guided P rs .sameRequests) at x))),
+    λ e. let x = may-burn P right rs (leb-true 1 _ (sym burned-is ∙ e)) in
+        rw (x .order) (Memᴰ·append-right (askedIn (opening (T .address) (T .wanted) (x .matched .captured) (x .matched .read))) (Memᴰ·append-right (linesOut W (x .lines)) (List·Memᴰ·head {xs = x .behind} refl))),
+    λ x. burned-is ∙ le-leb 1 _ (rw (spells P right rs) at (mem-spelled (W .burn) list (rw (guided P rs .sameRequests) at x))),
   )
 
   -- ---- the list
 
-  beginning : (later : List Reply) → (x : Now) × (rest : List Request) × Course T (contentIn m) (rs ++ later) x (out ++ rest)
+  beginning : (later : List Reply) → (x : Now) × (rest : List Request) × Course T (contentIn W m) (rs ++ later) x (out ++ rest)
   unfolding Begins
   beginning later =
       let b = begins (guideFor T file text) rs later in
       let e : bare (requests (guideFor T file text) (rs ++ later)) ≡ out ++ bare (b .0)
       = ap bare (b .1) ∙ (bare-append list (b .0) ∙ ap (λ (l : List Request). l ++ bare (b .0)) (sym (guided P rs .sameRequests))) in
-      (_, bare (b .0), rw (content-is m, e) at (course-of S r m a (rs ++ later) .goes))
+      (_, bare (b .0), rw (content-is m right, e) at (course-of S right r m a (rs ++ later) .goes))
 
   length-is : length out ≡ length list
   length-is = ap length (guided P rs .sameRequests) ∙ bare-length list
 
-  pub demand3 : Demand3 T m rs out (after text (beginOf S text) rs)
+  pub demand3 : Demand3 W T m rs out (after text (beginOf S text) rs)
   unfolding Bounded freshOf newPosition
   demand3 =
       let says = summary-says m in
@@ -183,12 +185,12 @@ module _ (S : Settings) {kept : ℕ} (r : Keeps (S .rule) kept) {text : List ℕ
         beginning = beginning;
         unless = unless;
         next = next;
-        once = (burn-is-last m .0, burn-is-last m .1, once);
-        never = burn-allowed P rs;
+        once = (burn-is-last right m .0, burn-is-last right m .1, once);
+        never = burn-allowed P right rs;
         counts = rw length-is (rw (begin-is P) (omega (arith, run P rs .counting)));
         reports = reports;
         bound = rw length-is (omega (arith, bounded T file text (facts P) rs, says .lines, says .configs));
       }
 
-  pub demand3-start : Demand3 T m rs (sent text (startOf S file) rs) (after text (startOf S file) rs)
+  pub demand3-start : Demand3 W T m rs (sent text (startOf S file) rs) (after text (startOf S file) rs)
   demand3-start = rw (begin-is P) at demand3

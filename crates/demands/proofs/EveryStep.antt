@@ -88,7 +88,7 @@ module _ (text : List ℕ) (s : Session) (held : Keeps (s .settings .rule) (kept
   unfolding lineDoneOf
   out-every =
       by (P LineOut) (ltb (s .position .line .0) (s .file .lines)) (putLineOf text s (lineNumber (s .position .line .0 + 1)))
-      (putOf s StatusAt (pointTo 0x7E 0x00)) (λ e. line-every LineOut _ (later (ltb-true _ _ e))) (λ e. puts LineOut s (kept s) _ _)
+      (putOf s StatusAt (pointTo (s .settings .address) 0x7E 0x00)) (λ e. line-every LineOut _ (later (ltb-true _ _ e))) (λ e. puts LineOut s (kept s) _ _)
 
   fit-every : (f : Fit) → fitHeld s word ≡ f → P RevisionRead (fitDoneOf text s f)
   unfolding fitDoneOf fitHeld

@@ -79,8 +79,8 @@ module _ (text : List ℕ) (ls : List Line) (s : Session) where
   step-fits (status-at c p) b K r = go (s .settings .limit) refl
     where
       go : (k : ℕ) → s .settings .limit ≡ k
-          → Fits text ls s (hear (formOf (pointTo 0x7E 0x00) (r .kind) (r .bytes)) λ _. RestOfGuide.statusRead (termsOf (s .settings)) (s .file) ls k)
-          (repliedOf text s StatusAt (formOf (pointTo 0x7E 0x00) (r .kind) (r .bytes)))
+          → Fits text ls s (hear (formOf (pointTo (s .settings .address) 0x7E 0x00) (r .kind) (r .bytes)) λ _. RestOfGuide.statusRead (termsOf (s .settings)) (s .file) ls k)
+          (repliedOf text s StatusAt (formOf (pointTo (s .settings .address) 0x7E 0x00) (r .kind) (r .bytes)))
       go zero e = absurd (let y : ⊥ = omega arith in y)
       go (suc left) e =
           hear-fits text ls s StatusAt _ _ λ _.

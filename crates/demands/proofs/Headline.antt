@@ -1,17 +1,11 @@
 -- The headline: if the burn was put out, it was allowed to be. Assumes nothing.
-use mathlib.Core.Path.{_≡_, refl, sym, ap, _∙_}
+use mathlib.Core.Path.{_≡_, sym, ap, _∙_}
 use mathlib.Core.Logic.{_⊎_, inl, inr}
-use mathlib.Core.Bool.{true}
-use mathlib.Core.List.{List, [], _∷_, _++_, append-assoc, List·Memᴰ, List·Memᴰ·not-nil, Memᴰ·append-left}
+use mathlib.Core.List.{List, _∷_, _++_, append-assoc, List·Memᴰ·not-nil, Memᴰ·append-left}
 use Prim.Native.Nat.{ℕ, suc, _+_, _-_, _≤_}
 use native.Mathlib.Omega.{arith}
 use lib.ListN.{length, drop, length-drop}
 use Rattle.cuts.specs.Lines.{linesOf}
-use Rattle.promise.proofs.Basics.{split}
-use Rattle.summary.specs.declared.FileAnswer.{FileAnswer}
-use Rattle.summary.specs.declared.FileAnswer.the-variants.{Accepted, Refused}
-use Rattle.image.specs.Check.{checkOf}
-use Rattle.summary.specs.Answers.{answerTold}
 use Rattle.image.specs.Meets.{Meets}
 use Rattle.image.proofs.LinesAndBytes.{spelled-length}
 use Rattle.image.proofs.MeetsPass.{spelled-of}
@@ -25,30 +19,32 @@ use Rattle.guide.proofs.Every.{behind}
 use Rattle.guide.proofs.GateOpens.{Reached, reached}
 use Rattle.guide.proofs.GateUnless.{Begins12, gate-unless12}
 use Rattle.guide.proofs.Burning.{burns-behind, before-behind}
-use Rattle.guide.specs.declared.Verdict.the-variants.{Setting, File}
 use Rattle.session.specs.declared.Settings.{Settings}
-use Rattle.session.specs.Sound.{allowedOf}
-use Rattle.session.specs.Begin.{answeredOf, checkedOf, beginOf}
+use Rattle.session.specs.Begin.{beginOf}
 use Rattle.demands.specs.Runs.{sent}
 use Rattle.demands.specs.Guided.{Premises}
-use Rattle.demands.specs.Headline.{Keeps, targetIn, asItStands, allAsTheyStand, burn, MayBurn, Headline}
+use Rattle.demands.specs.Headline.{targetIn, linesOut, MayBurn, Headline}
+use Rattle.guide.specs.Wire.{Wire, RightAt, inUse}
+use Rattle.guide.proofs.LineBytes.{in-use}
 use Rattle.demands.specs.Rules.{SessionHeadline}
 use Rattle.demands.proofs.PremisesGive.{meets, facts}
 use Rattle.demands.proofs.Guided.{guided}
 use Rattle.guide.proofs.CourseIsGuide.{bare-append}
-use Rattle.demands.proofs.SettingsSay.{allowed-is, rule-is, not-reserved, refused-sends}
+use Rattle.demands.proofs.SettingsSay.{not-reserved}
+use Rattle.demands.proofs.AnyStart.{any-start}
 use Rattle.demands.proofs.BurnIsLast.{last-burns}
 use Rattle.demands.proofs.ContentIs.{spelled-drop, formed, target-is}
 use Rattle.demands.proofs.BurnReached.{marked, marked-bare, Reach, reach}
-use Rattle.demands.proofs.BurnSpelled.{spellings-append, opening-none, burn-spelled, mem-spelled, said-in-form, guide-made}
+use Rattle.demands.proofs.BurnSpelled.{spellings-append, opening-none, mem-spelled, said-in-form, guide-made}
 use Rattle.session.specs.Terms.{keptOf, keeping}
 use Rattle.guide.specs.Terms.{Terms}
 use Rattle.guide.proofs.BurnsOnce.{burns-once}
 use Rattle.guide.proofs.FileFacts.{lines-are, some-line}
-use Rattle.guide.proofs.MarksTell.{spelled-once}
+use Rattle.guide.proofs.MarksTell.{same-self, spelled-once}
 use Rattle.summary.specs.declared.Summary.{Summary}
+use Rattle.guide.specs.declared.Words.{Words}
 
-module _ {S : Settings} {kept : ℕ} {text : List ℕ} {file : Summary} (P : Premises S kept text file) (rs : List Reply) where
+module _ {S : Settings} {kept : ℕ} {text : List ℕ} {file : Summary} (P : Premises S kept text file) {W : Wire} (right : RightAt (S .address) W) (rs : List Reply) where
   abbrev T : Terms
   T = keeping kept S
 
@@ -74,9 +70,14 @@ module _ {S : Settings} {kept : ℕ} {text : List ℕ} {file : Summary} (P : Pre
   same-target : targetOf file ≡ targetIn m
   same-target = ap (λ (f : Summary). targetOf f) (P .summary) ∙ target-is m
 
-  pub spells : spellings list ≡ burnsIn n list
+  pub spells : spellings (W .burn) list ≡ burnsIn n list
   unfolding SpelledOnce
-  spells = spelled-once T file text (facts P) rs (not-reserved T (P .allowed))
+  spells = spelled-once W T right file text (facts P) rs (not-reserved T (P .allowed))
+
+  -- what is a beginning of steps 1 and 2 does not hold the burn
+  none-spelled : (captured : ℕ) (read : Words) (more : List Request) → askedIn (opening (T .address) (T .wanted) captured read) ≡ bare list ++ more
+      → spellings (W .burn) list ≡ 0
+  none-spelled captured read more e = rw (right .burn) (opening-none (T .address) list more (T .wanted) captured read e)
 
   module _ (some : 1 ≤ burnsIn n list) where
     was-matched : Matched T (targetOf file) rs
@@ -84,7 +85,7 @@ module _ {S : Settings} {kept : ℕ} {text : List ℕ} {file : Summary} (P : Pre
       where
         by : Matched T (targetOf file) rs ⊎ Begins12 T file text (facts P .few) rs → Matched T (targetOf file) rs
         by (inl w) = w
-        by (inr (captured, read, more, e)) = absurd (let y : ⊥ = omega (arith, opening-none list more (T .wanted) captured read e, spells) in y)
+        by (inr (captured, read, more, e)) = absurd (let y : ⊥ = omega (arith, none-spelled captured read more e, spells) in y)
 
     matched : Matched T (targetIn m) rs
     matched =
@@ -99,20 +100,20 @@ module _ {S : Settings} {kept : ℕ} {text : List ℕ} {file : Summary} (P : Pre
     at3 : Reached T file (writeLinesOf text) rs was-matched
     at3 = reached T file (writeLinesOf text) rs was-matched
 
-    found : Reach n rest 5 (drop 4 (linesOf text)) (drop 4 vs) (was-matched .left)
+    found : Reach right n rest 5 (drop 4 (linesOf text)) (drop 4 vs) (was-matched .left)
     unfolding guideFor writeLinesOf
     found =
-        reach n rest (spelled-drop 4 (spelled-of m)) 5 (omega arith) (formed m) (omega (arith, sizes .0, sizes .1, sizes .2))
+        reach right n rest (spelled-drop 4 (spelled-of m)) 5 (omega arith) (formed m) (omega (arith, sizes .0, sizes .1, sizes .2))
         (omega (arith, sizes .1, sizes .2)) (was-matched .left)
         (rw (at3 .list, burns-behind n (at3 .before) _ (at3 .plain)) at some)
 
-    last-is-burn : asItStands (found .last) ≡ burn
-    last-is-burn = rw (found .last-is) (last-burns m)
+    last-is-burn : W .line (found .last) ≡ W .burn
+    last-is-burn = rw (found .last-is) (last-burns right m)
 
     abbrev earlier : List Asked
-    earlier = at3 .before ++ marked 5 (found .sofar)
+    earlier = at3 .before ++ marked W 5 (found .sofar)
 
-    whole : list ≡ earlier ++ (asked (fileLine n) burn ∷ found .behind)
+    whole : list ≡ earlier ++ (asked (fileLine n) (W .burn) ∷ found .behind)
     unfolding guideFor writeLinesOf
     whole = at3 .list ∙ rw (found .list, last-is-burn) (sym (append-assoc (at3 .before) _ _))
 
@@ -126,20 +127,21 @@ module _ {S : Settings} {kept : ℕ} {text : List ℕ} {file : Summary} (P : Pre
         burns-once T file (writeLinesOf text) rs (lines-are text (facts P)) (some-line text (facts P)) was-matched (rw b in-form)
 
     -- the burn's own spelling is the only one
-    alone : (spellings earlier ≡ 0) × (spellings (found .behind) ≡ 0)
+    alone : (spellings (W .burn) earlier ≡ 0) × (spellings (W .burn) (found .behind) ≡ 0)
     unfolding spellings
     alone =
-        let total : spellings earlier + suc (spellings (found .behind)) ≡ 1
-        = sym (ap spellings whole ∙ spellings-append earlier _ ∙ rw burn-spelled) ∙ (spells ∙ one) in
+        let burn = W .burn in
+        let total : spellings burn earlier + suc (spellings burn (found .behind)) ≡ 1
+        = sym (ap (spellings burn) whole ∙ spellings-append burn earlier _ ∙ rw (same-self (burn .bytes))) ∙ (spells ∙ one) in
         (omega arith, omega arith)
 
     abbrev asking : List Request
-    asking = askedIn (opening (T .wanted) (was-matched .captured) (was-matched .read))
+    asking = askedIn (opening (T .address) (T .wanted) (was-matched .captured) (was-matched .read))
 
-    earlier-bare : bare earlier ≡ asking ++ allAsTheyStand (found .sofar)
-    earlier-bare = bare-append (at3 .before) _ ∙ rw (at3 .asked, marked-bare 5 (found .sofar))
+    earlier-bare : bare earlier ≡ asking ++ linesOut W (found .sofar)
+    earlier-bare = bare-append (at3 .before) _ ∙ rw (at3 .asked, marked-bare W 5 (found .sofar))
 
-    pub may-burn : MayBurn T text rs (sent text (beginOf S text) rs)
+    pub may-burn : MayBurn W T text rs (sent text (beginOf S text) rs)
     unfolding bare matched
     may-burn =
         record {
@@ -156,29 +158,21 @@ module _ {S : Settings} {kept : ℕ} {text : List ℕ} {file : Summary} (P : Pre
           earlier =
               rw (← earlier-bare)
               (said-in-form earlier rs (λ q x. guide-made T file text rs q (rw whole (Memᴰ·append-left _ x))) in-form);
-          notBefore = λ x. omega (arith, mem-spelled earlier (rw earlier-bare x), alone .0);
-          notBehind = λ x. omega (arith, mem-spelled (found .behind) x, alone .1);
+          notBefore = λ x. omega (arith, mem-spelled (W .burn) earlier (rw earlier-bare x), alone .0);
+          notBehind = λ x. omega (arith, mem-spelled (W .burn) (found .behind) x, alone .1);
         }
 
-  pub burn-allowed : Headline T text rs (sent text (beginOf S text) rs)
+  pub burn-allowed : Headline W T text rs (sent text (beginOf S text) rs)
   unfolding Headline
-  burn-allowed b = may-burn (rw spells at (mem-spelled list (rw (guided P rs .sameRequests) at b)))
+  burn-allowed b = may-burn (rw spells at (mem-spelled (W .burn) list (rw (guided P rs .sameRequests) at b)))
 
 -- ---- of all settings and texts: a refused start puts nothing out
 
-no-burn : {A : Type 0} {qs : List Request} → qs ≡ [] → List·Memᴰ burn qs → A
-no-burn e b = absurd (List·Memᴰ·not-nil (rw e at b))
+pub headline : (S : Settings) {W : Wire} → RightAt (S .address) W → (text : List ℕ) (rs : List Reply) → SessionHeadline W S text rs
+unfolding SessionHeadline Headline
+headline S right text rs b =
+    any-start S text rs (λ e. absurd (List·Memᴰ·not-nil (rw e at b))) (λ P. (keptOf (S .rule), P .rule, burn-allowed P right rs b))
 
-pub headline : (S : Settings) (text : List ℕ) (rs : List Reply) → SessionHeadline S text rs
-unfolding SessionHeadline Headline beginOf checkedOf answeredOf
-headline S text rs b =
-    split (allowedOf S) (λ e. by-file e (checkOf text .answer) refl)
-    (λ e. no-burn (rw e (refused-sends S text Setting rs)) b)
-  where
-    by-file : allowedOf S ≡ true → (a : FileAnswer) → checkOf text .answer ≡ a
-        → (kept : ℕ) × Keeps (S .rule) kept × MayBurn (keeping kept S) text rs (sent text (beginOf S text) rs)
-    by-file e Accepted h =
-        let P : Premises S (keptOf (S .rule)) text (checkOf text .summary)
-        = record { accepted = ap (λ a. answerTold a .number) h; summary = refl; rule = rule-is S e; allowed = allowed-is S e (keptOf (S .rule)) } in
-        (keptOf (S .rule), rule-is S e, burn-allowed P rs b)
-    by-file e (Refused r) h = no-burn (rw (e, h) (refused-sends S text (File r) rs)) b
+-- with the address in use
+pub session-headline : (S : Settings) (text : List ℕ) (rs : List Reply) → SessionHeadline (inUse (S .address)) S text rs
+session-headline S text rs = headline S (in-use (S .address)) text rs

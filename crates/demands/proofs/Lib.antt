@@ -7,12 +7,12 @@ pub mod FitsReply
 pub mod SessionIsGuide
 pub mod PremisesGive
 pub mod Guided
-pub mod LinesAsTheyStand
 pub mod BurnIsLast
 pub mod ContentIs
 pub mod BurnReached
 pub mod BurnSpelled
 pub mod SettingsSay
+pub mod AnyStart
 pub mod Headline
 pub mod Demand2
 pub mod Demand3
@@ -20,6 +20,8 @@ pub mod RepliesInForm
 pub mod FittingDevice
 pub mod CanEnd
 pub mod SessionTheorem
+pub mod Addressed
+pub mod AtC0
 pub mod PlacesExactly
 pub mod RulesAgree
 pub mod Cases

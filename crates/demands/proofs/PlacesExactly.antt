@@ -11,6 +11,8 @@ use Rattle.guide.specs.Plan.{Reply}
 use Rattle.guide.specs.Course.{Said, Now, over, unfit, judged}
 use Rattle.guide.specs.Course as course
 use Rattle.guide.proofs.ShortOfPlaces.{short-passes, passes-short, Ends28, course-28}
+use Rattle.guide.specs.Wire.{inUse}
+use Rattle.guide.proofs.LineBytes.{in-use}
 use Rattle.session.specs.declared.Settings.{Settings}
 use Rattle.session.specs.declared.Report.the-variants.{Is}
 use Rattle.session.specs.Terms.{keptOf, keeping}
@@ -44,8 +46,8 @@ places-exactly S {kept} r {text} m a rs = record { only = only; when = when }
   where
     only : reported S text rs ≡ Is (plain 28) → ShortOfPlaces S m rs
     only e =
-        let d = demand2 S r m a rs in
-        let c : Ends28 (keeping kept S) (contentIn m) rs = course-28 (d .goes) (tells-28 (d .now) (sym (d .tells) ∙ e)) in
+        let d = demand2 S (in-use (S .address)) r m a rs in
+        let c : Ends28 (keeping kept S) (contentIn (inUse (S .address)) m) rs = course-28 (d .goes) (tells-28 (d .now) (sym (d .tells) ∙ e)) in
         let p = short-passes (targetIn m) kept (c .said .read) (c .first) in
         record {
           captured = c .said .captured;
@@ -64,6 +66,6 @@ places-exactly S {kept} r {text} m a rs = record { only = only; when = when }
         let w : Said = record { captured = s .captured; read = s .read; busy = []; last = 0; banks = 0 } in
         let f = passes-short (targetIn m) kept (s .read)
         (record { counted = s .counted; same = s .same; young = s .young; kind = s .kind; places = omega arith }) (few-is r (s .few)) in
-        let d = demand2 S r m a rs in
+        let d = demand2 S (in-use (S .address)) r m a rs in
         let o = d .only (over 28 0) _ (judged _ (s .left) 28 0 (s .came) (unfit w 28 0 f)) in
         d .tells ∙ ap (λ (x : Now). reportFor x) (sym (o .0))

@@ -10,7 +10,7 @@ use Rattle.pec.proofs.Laws.{pec-lt}
 use Rattle.line.specs.declared.Line.{Line}
 use Rattle.summary.specs.declared.Summary.{Summary}
 use Rattle.bus.specs.Bus.{framed, writeOf}
-use Rattle.guide.specs.Requests.{readData, readBlock, device}
+use Rattle.guide.specs.Requests.{readData, readBlock}
 use Rattle.bus.specs.InForm.{registerPec, blockPec, spelled, InForm, wrote as wroteBytes, registerRead, blockRead}
 use Rattle.guide.specs.Plan.{Reply}
 use Rattle.guide.specs.Guide.{crcIn}
@@ -66,7 +66,7 @@ able-answered (and {x} {xs} c a) =
 pub can-write : (sent : List ℕ) (p : ℕ) → Can (wrote (framed sent p))
 can-write sent p = (done [], wroteBytes sent p, of-bytes empty)
 
-module _ (w : ℕ) (h : w < 4294967296) where
+module _ (address w : ℕ) (h : w < 4294967296) where
   abbrev a : ℕ
   a = w % 256
 
@@ -86,45 +86,45 @@ module _ (w : ℕ) (h : w < 4294967296) where
   spelled-is : spelled a b c d ≡ w
   spelled-is = omega arith
 
-  pub can-read : Can (got readData w)
+  pub can-read : Can (got (readData address) w)
   can-read = (
-    done (a ∷ b ∷ c ∷ d ∷ registerPec device a b c d ∷ []),
-    rw spelled-is at (registerRead device a b c d),
+    done (a ∷ b ∷ c ∷ d ∷ registerPec address a b c d ∷ []),
+    rw spelled-is at (registerRead address a b c d),
     of-bytes (word-bytes _ (pec-lt _)),
   )
 
-  pub can-block : (command : ℕ) → Can (got (readBlock command) w)
+  pub can-block : (command : ℕ) → Can (got (readBlock address command) w)
   can-block command = (
-    done (4 ∷ a ∷ b ∷ c ∷ d ∷ blockPec device command a b c d ∷ []),
-    rw spelled-is at (blockRead device command a b c d),
+    done (4 ∷ a ∷ b ∷ c ∷ d ∷ blockPec address command a b c d ∷ []),
+    rw spelled-is at (blockRead address command a b c d),
     of-bytes (byte 4 (omega arith) (word-bytes _ (pec-lt _))),
   )
 
 -- ---- the steps
 
-pub able-opening : (wanted : Bool) (read : Words)
+pub able-opening : (address : ℕ) (wanted : Bool) (read : Words)
     → read .counter < 4294967296 → read .identity < 4294967296 → read .flag < 4294967296 → read .revision < 4294967296
-    → Able (opening wanted 0 read)
+    → Able (opening address wanted 0 read)
 unfolding opening writeOf
-able-opening wanted read e f g h = by wanted
+able-opening address wanted read e f g h = by wanted
   where
-    step2 : Able (opening false 0 read)
+    step2 : Able (opening address false 0 read)
     step2 =
-        and (can-write _ _) (and (can-read (read .counter) e) (and (can-block (read .identity) f _)
-        (and (can-write _ _) (and (can-read (read .flag) g) (and (can-block (read .revision) h _) end)))))
+        and (can-write _ _) (and (can-read address (read .counter) e) (and (can-block address (read .identity) f _)
+        (and (can-write _ _) (and (can-read address (read .flag) g) (and (can-block address (read .revision) h _) end)))))
 
-    by : (b : Bool) → Able (opening b 0 read)
-    by true = and (can-write _ _) (and (can-read 0 (omega arith)) (and (can-write _ _) (and (can-write _ _) step2)))
+    by : (b : Bool) → Able (opening address b 0 read)
+    by true = and (can-write _ _) (and (can-read address 0 (omega arith)) (and (can-write _ _) (and (can-write _ _) step2)))
     by false = step2
 
-pub able-lines : (ls : List Line) → Able (heard3 (lineRequests ls))
+pub able-lines : (address : ℕ) (ls : List Line) → Able (heard3 (lineRequests address ls))
 unfolding heard3 lineRequests lineRequest writeOf
-able-lines [] = end
-able-lines (l ∷ ls) = and (can-write _ _) (able-lines ls)
+able-lines address [] = end
+able-lines address (l ∷ ls) = and (can-write _ _) (able-lines address ls)
 
 pub able-crcs : (T : Terms) (file : Summary) (left N : ℕ) → ((i : ℕ) → i < N + left → crcIn file i < 4294967296) → Able (heard6 T (configsIn file left N))
 unfolding heard6 configsIn writeOf
 able-crcs T file zero N f = end
 able-crcs T file (suc left) N f =
-    and (can-write _ _) (and (can-write _ _) (and (can-read (crcIn file N) (f N (omega arith)))
+    and (can-write _ _) (and (can-write _ _) (and (can-read (T .address) (crcIn file N) (f N (omega arith)))
     (able-crcs T file left (N + 1) (λ i h. f i (omega arith)))))

@@ -18,6 +18,7 @@ use Rattle.guide.specs.declared.Verdict.the-variants.{Setting, File}
 use Rattle.guide.specs.Plan.{Reply}
 use Rattle.guide.specs.Course.{Now, over, Course}
 use Rattle.guide.proofs.FewerKept.{course-with-fewer}
+use Rattle.guide.specs.Wire.{inUse}
 use Rattle.session.specs.declared.Settings.{Settings}
 use Rattle.session.specs.declared.Report.the-variants.{Is}
 use Rattle.session.specs.declared.Answer.the-variants.{Over}
@@ -61,8 +62,8 @@ module _ (S : Settings) (text : List ℕ) (rs : List Reply) where
   abbrev Agree : Type 0
   Agree = SameUnderBoth S text rs ⊎ (reported S2 text rs ≡ Is (plain 28))
 
-  by-course : (m : Meets text) (d : Demanded S2 2 m rs) → Demanded S1 0 m rs
-      → Course (keeping 0 S1) (contentIn m) rs (d .demand2 .now) (out S2 text rs) ⊎ (d .demand2 .now ≡ over 28 0) → Agree
+  by-course : (m : Meets text) (d : Demanded (inUse (S .address)) S2 2 m rs) → Demanded (inUse (S .address)) S1 0 m rs
+      → Course (keeping 0 S1) (contentIn (inUse (S .address)) m) rs (d .demand2 .now) (out S2 text rs) ⊎ (d .demand2 .now ≡ over 28 0) → Agree
   by-course m d2 d1 (inl c) =
       let o = d1 .demand2 .only (d2 .demand2 .now) (out S2 text rs) c in
       inl (record { requests = o .1; report = d2 .demand2 .tells ∙ (ap (λ (x : Now). reportFor x) (o .0) ∙ sym (d1 .demand2 .tells)) })
@@ -72,7 +73,7 @@ module _ (S : Settings) (text : List ℕ) (rs : List Reply) where
   accepted-agree m e =
       let d2 = session-theorem S2 m rs .underRule2 refl (allowed-is S2 e 2) in
       let d1 = session-theorem S1 m rs .underRule1 refl (allowed-is S1 (same-allowed ∙ e) 0) in
-      by-course m d2 d1 (course-with-fewer (keeping 2 S2) 0 (omega arith) (contentIn m) (d2 .demand2 .goes))
+      by-course m d2 d1 (course-with-fewer (keeping 2 S2) 0 (omega arith) (contentIn (inUse (S .address)) m) (d2 .demand2 .goes))
 
   agree : Agree
   unfolding answeredOf

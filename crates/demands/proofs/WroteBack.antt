@@ -7,7 +7,7 @@ use Rattle.image.specs.Check.{checkOf}
 use Rattle.image.specs.Meets.{Meets}
 use Rattle.bus.specs.declared.Request.{Request}
 use Rattle.bus.specs.Bus.{writeOf, wordBytes}
-use Rattle.guide.specs.Requests.{pointTo, readData, device}
+use Rattle.guide.specs.Requests.{pointTo, readData}
 use Rattle.guide.specs.Judged.{cleared}
 use Rattle.guide.specs.Plan.{Reply, Plan, requests, bare}
 use Rattle.guide.specs.Guide.{write, step1, step2, lines, guide, writeLinesOf, guideFor}
@@ -32,26 +32,26 @@ asks-first q next [] = (_, refl)
 asks-first q next (r ∷ rs) = (_, refl)
 
 -- step 1 up to what it writes back
-module _ (rest : Plan) (w : ℕ) where
+module _ (address : ℕ) (rest : Plan) (w : ℕ) where
   abbrev first2 : List Exchange
-  first2 = wrote (pointTo 0xA2 0x00) ∷ got readData w ∷ []
+  first2 = wrote (pointTo address 0xA2 0x00) ∷ got (readData address) w ∷ []
 
   abbrev third : Request
-  third = writeOf device 0xC5 (wordBytes (cleared w))
+  third = writeOf address 0xC5 (wordBytes (cleared w))
 
   abbrev from4 : Plan
-  from4 = write (writeOf device 0xE7 (0x02 ∷ 0x00 ∷ [])) rest
+  from4 = write (writeOf address 0xE7 (0x02 ∷ 0x00 ∷ [])) rest
 
-  leads2 : Leads (step1 rest) first2 (write third from4)
+  leads2 : Leads (step1 address rest) first2 (write third from4)
   unfolding step1
   leads2 = on _ (on _ arrived)
 
   step1-writes : (rs left : List Reply) → Heard first2 rs left
-      → (more : List Request) × (bare (requests (step1 rest) rs) ≡ pointTo 0xA2 0x00 ∷ readData ∷ third ∷ more)
+      → (more : List Request) × (bare (requests (step1 address rest) rs) ≡ pointTo address 0xA2 0x00 ∷ readData address ∷ third ∷ more)
   unfolding askedIn
   step1-writes rs left h =
       let next = asks-first third from4 left in
-      let asked : bare (asksOf leads2) ≡ pointTo 0xA2 0x00 ∷ readData ∷ [] = asks-are leads2 in
+      let asked : bare (asksOf leads2) ≡ pointTo address 0xA2 0x00 ∷ readData address ∷ [] = asks-are leads2 in
       (next .0, ap bare (leads-requests leads2 h) ∙ (bare-append (asksOf leads2) (requests (write third from4) left) ∙ rw (asked, next .1)))
 
 pub wrote-back : (S : Settings) {kept : ℕ} → Keeps (S .rule) kept → {text : List ℕ} → Meets text → Allowed (keeping kept S) → (rs : List Reply)
@@ -59,7 +59,7 @@ pub wrote-back : (S : Settings) {kept : ℕ} → Keeps (S .rule) kept → {text 
 unfolding WroteBack guideFor guide
 wrote-back S {kept} r {text} m a rs wanted w left small h =
     let T = keeping kept S in
-    let rest = step2 T (checkOf text .summary) (lines 5 (writeLinesOf text) (behind T (checkOf text .summary))) in
-    let b = step1-writes rest w rs left h in
-    let begun = ap (λ x. bare (requests (cond x (step1 rest) rest) rs)) wanted in
-    (third rest w, b .0, guided (premises S r m a) rs .sameRequests ∙ (begun ∙ b .1), writes-back w small)
+    let rest = step2 T (checkOf text .summary) (lines (T .address) 5 (writeLinesOf text) (behind T (checkOf text .summary))) in
+    let b = step1-writes (T .address) rest w rs left h in
+    let begun = ap (λ x. bare (requests (cond x (step1 (T .address) rest) rest) rs)) wanted in
+    (third (T .address) rest w, b .0, guided (premises S r m a) rs .sameRequests ∙ (begun ∙ b .1), writes-back (T .address) w small)

@@ -14,6 +14,7 @@ use Rattle.image.specs.Meets.{dataIn, crcBytes, idDigit, Meets}
 use Rattle.bus.specs.declared.Request.{Request}
 use Rattle.guide.specs.declared.Words.{Words}
 use Rattle.guide.specs.Terms.{Terms}
+use Rattle.guide.specs.Wire.{Wire, burnTo}
 use Rattle.guide.specs.Plan.{Reply}
 use Rattle.guide.specs.Matched.{askedIn, opening, Matched}
 use Rattle.guide.specs.Course.{Config, Content, Now, waiting, over, Course}
@@ -24,7 +25,7 @@ use Rattle.session.specs.declared.Report.{Report}
 use Rattle.session.specs.declared.Report.the-variants.{Waiting, Is}
 use Rattle.session.specs.Reports.{reportOf}
 use Rattle.session.specs.Begin.{beginOf}
-use Rattle.demands.specs.Headline.{allAsTheyStand, burn, Answered, targetIn, Headline}
+use Rattle.demands.specs.Headline.{linesOut, Answered, targetIn, Headline}
 use Rattle.demands.specs.Runs.{sent, after}
 
 -- ---- what a file holds, by the bytes of its lines
@@ -36,47 +37,48 @@ configsBy m (suc left) N =
     let c = crcBytes (m .meets .laid) N in
     record { id = idDigit (m .meets .laid) N; crc = word (dataIn 3 c) (dataIn 2 c) (dataIn 1 c) (dataIn 0 c) } ∷ configsBy m left (N + 1)
 
-abbrev pub contentIn : {text : List ℕ} → Meets text → Content
-contentIn m = record { target = targetIn m; lines = allAsTheyStand (drop 4 (m .values)); configs = configsBy m (m .meets .laid .configs) 0 }
+abbrev pub contentIn : Wire → {text : List ℕ} → Meets text → Content
+contentIn W m = record { target = targetIn m; lines = linesOut W (drop 4 (m .values)); configs = configsBy m (m .meets .laid .configs) 0 }
 
 -- what is reported: a verdict has no line and no place
 abbrev pub reportFor : Now → Report
 reportFor waiting = Waiting
 reportFor (over m N) = Is (told m (lineNumber 0) (linePlace 0) (configNumber N))
 
--- by the guide's terms, a text that meets the document, and the replies: of what was put out, and of what was handed back last
-module _ (T : Terms) {text : List ℕ} (m : Meets text) (rs : List Reply) (out : List Request) (last : Handed) where
+-- by what is on the wire, the guide's terms, a text that meets the document, and the replies: of what was put out, and of what was handed
+-- back last
+module _ (W : Wire) (T : Terms) {text : List ℕ} (m : Meets text) (rs : List Reply) (out : List Request) (last : Handed) where
   -- ---- demand 2: each request and each verdict are what the steps give for the replies so far, and nothing else is
   pub record Demand2 : Type 0 where
     pub now : Now
     pub tells : reportOf (last .answer) ≡ reportFor now
-    pub goes : Course T (contentIn m) rs now out
-    pub only : (x : Now) (qs : List Request) → Course T (contentIn m) rs x qs → (x ≡ now) × (qs ≡ out)
+    pub goes : Course T (contentIn W m) rs now out
+    pub only : (x : Now) (qs : List Request) → Course T (contentIn W m) rs x qs → (x ≡ now) × (qs ≡ out)
 
   -- the requests of steps 1 and 2, with the words that matched
   abbrev pub opens : Matched T (targetIn m) rs → List Request
-  opens w = askedIn (opening (T .wanted) (w .captured) (w .read))
+  opens w = askedIn (opening (T .address) (T .wanted) (w .captured) (w .read))
 
   -- ---- demand 3
   pub record Demand3 : Type 0 where
     -- 15 is never met
     pub never15 : last .answer ≡ BadState → ⊥
     -- the requests put out are, in order, a beginning of the guide's list for these replies and any that follow
-    pub beginning : (later : List Reply) → (x : Now) × (rest : List Request) × Course T (contentIn m) (rs ++ later) x (out ++ rest)
+    pub beginning : (later : List Reply) → (x : Now) × (rest : List Request) × Course T (contentIn W m) (rs ++ later) x (out ++ rest)
     -- no write line unless they matched: what was put out is a beginning of steps 1 and 2
     pub unless : Matched T (targetIn m) rs
-        ⊎ ((captured : ℕ) × (read : Words) × (rest : List Request) × (askedIn (opening (T .wanted) captured read) ≡ out ++ rest))
+        ⊎ ((captured : ℕ) × (read : Words) × (rest : List Request) × (askedIn (opening (T .address) (T .wanted) captured read) ≡ out ++ rest))
     -- if they matched, the first write line is next
     pub next : (w : Matched T (targetIn m) rs)
-        → (first : Request) × (lines : List Request) × (rest : List Request) × (allAsTheyStand (drop 4 (m .values)) ≡ first ∷ lines) × (out ≡ opens w ++ (first ∷ rest))
+        → (first : Request) × (lines : List Request) × (rest : List Request) × (linesOut W (drop 4 (m .values)) ≡ first ∷ lines) × (out ≡ opens w ++ (first ∷ rest))
     -- the burn, which is line n, once if they matched and every earlier request was answered in form
-    pub once : (lines : List Request) × (allAsTheyStand (drop 4 (m .values)) ≡ lines ++ (burn ∷ []))
-        × ((w : Matched T (targetIn m) rs) → Answered (opens w ++ lines) rs → (behind : List Request) × (out ≡ (opens w ++ lines) ++ (burn ∷ behind)))
+    pub once : (lines : List Request) × (linesOut W (drop 4 (m .values)) ≡ lines ++ (W .burn ∷ []))
+        × ((w : Matched T (targetIn m) rs) → Answered (opens w ++ lines) rs → (behind : List Request) × (out ≡ (opens w ++ lines) ++ (W .burn ∷ behind)))
     -- otherwise never, and never twice
-    pub never : Headline T text rs out
+    pub never : Headline W T text rs out
     -- the reported count is the length of the list, and the reported burn is whether it is there
     pub counts : last .session .sent ≡ length out
-    pub reports : (last .session .burned ≡ true) ↔ List·Memᴰ burn out
+    pub reports : (last .session .burned ≡ true) ↔ List·Memᴰ (W .burn) out
     -- at most lines + poll limit + 3 x configurations + 9
     pub bound : length out ≤ length (m .values) + T .limit + 3 * m .meets .laid .configs + 9
 
@@ -90,4 +92,4 @@ pub record CanEnd (S : Settings) (text : List ℕ) : Type 0 where
   pub replies : List Reply
   pub possible : (r : Reply) → List·Memᴰ r replies → OfBytes r
   pub done : reportOf (after text (beginOf S text) replies .answer) ≡ reportFor (over 0 0)
-  pub burned : List·Memᴰ burn (sent text (beginOf S text) replies)
+  pub burned : List·Memᴰ (burnTo (S .address)) (sent text (beginOf S text) replies)

@@ -42,11 +42,13 @@ zeros = record { bytes = 0x00 ∷ 0x00 ∷ 0x00 ∷ 0x00 ∷ 0x00 ∷ 0x00 ∷ 0
 
 -- ---- settings
 
--- a setting that is out of its range, a code of the guide's other commands, or a rule other than 1 or 2
+-- a setting that is out of its range, a code of the guide's other commands, a rule other than 1 or 2, or an odd or outlying address: one that
+-- is no device's, whose seven bits are 08 to 77 hex and stand before a 0
 pub data SettingOut (S : Settings) : Type 0 where
   limit : ((1 ≤ S .limit) × (S .limit ≤ 10000) → ⊥) → SettingOut S
   restore : List·Memᴰ (S .restore) codes → SettingOut S
   rule : (S .rule ≡ 1 → ⊥) → (S .rule ≡ 2 → ⊥) → SettingOut S
+  address : ((bits : ℕ) → 0x08 ≤ bits → bits ≤ 0x77 → S .address ≡ 2 * bits → ⊥) → SettingOut S
 
 -- ---- 15, before the reply is looked at
 

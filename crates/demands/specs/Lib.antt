@@ -5,3 +5,4 @@ pub mod Demands
 pub mod Asked
 pub mod Exactly
 pub mod Rules
+pub mod Addresses

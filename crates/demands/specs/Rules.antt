@@ -8,6 +8,7 @@ use Rattle.summary.specs.Answers.{plain}
 use Rattle.image.specs.Meets.{Meets}
 use Rattle.bus.specs.declared.Request.{Request}
 use Rattle.guide.specs.declared.Words.{Words}
+use Rattle.guide.specs.Wire.{Wire, inUse}
 use Rattle.guide.specs.Plan.{Reply}
 use Rattle.guide.specs.Matched.{Heard, opening, Wants}
 use Rattle.session.specs.declared.Settings.{Settings}
@@ -17,7 +18,7 @@ use Rattle.session.specs.Terms.{keeping}
 use Rattle.session.specs.Reports.{reportOf}
 use Rattle.session.specs.Begin.{beginOf}
 use Rattle.demands.specs.Runs.{sent, after}
-use Rattle.demands.specs.Headline.{burn, Allowed, Keeps, targetIn, MayBurn}
+use Rattle.demands.specs.Headline.{Allowed, Keeps, targetIn, MayBurn}
 use Rattle.demands.specs.Demands.{Demand2, Demand3}
 
 -- ---- a session's own: what it puts out and what it reports
@@ -30,19 +31,21 @@ reported S text rs = reportOf (after text (beginOf S text) rs .answer)
 
 -- ---- the headline, of any settings and text: if the burn was put out, the settings' rule is 1 or 2, and with the places that it keeps free
 -- the burn was allowed to be
-unfoldable pub SessionHeadline : Settings → List ℕ → List Reply → Type 0
-SessionHeadline S text rs = List·Memᴰ burn (out S text rs) → (kept : ℕ) × Keeps (S .rule) kept × MayBurn (keeping kept S) text rs (out S text rs)
+unfoldable pub SessionHeadline : Wire → Settings → List ℕ → List Reply → Type 0
+SessionHeadline W S text rs =
+    List·Memᴰ (W .burn) (out S text rs) → (kept : ℕ) × Keeps (S .rule) kept × MayBurn W (keeping kept S) text rs (out S text rs)
 
--- ---- the session theorem: demands 2 and 3 with so many places kept free; rules 1 and 2 are two instances of it
+-- ---- the session theorem: demands 2 and 3 with so many places kept free, with the address in use on the wire; rules 1 and 2 are two
+-- instances of it
 
-pub record Demanded (S : Settings) (kept : ℕ) {text : List ℕ} (m : Meets text) (rs : List Reply) : Type 0 where
-  pub demand2 : Demand2 (keeping kept S) m rs (out S text rs) (after text (beginOf S text) rs)
-  pub demand3 : Demand3 (keeping kept S) m rs (out S text rs) (after text (beginOf S text) rs)
+pub record Demanded (W : Wire) (S : Settings) (kept : ℕ) {text : List ℕ} (m : Meets text) (rs : List Reply) : Type 0 where
+  pub demand2 : Demand2 W (keeping kept S) m rs (out S text rs) (after text (beginOf S text) rs)
+  pub demand3 : Demand3 W (keeping kept S) m rs (out S text rs) (after text (beginOf S text) rs)
 
 pub record SessionTheorem (S : Settings) {text : List ℕ} (m : Meets text) (rs : List Reply) : Type 0 where
-  pub once : (kept : ℕ) → Keeps (S .rule) kept → Allowed (keeping kept S) → Demanded S kept m rs
-  pub underRule1 : S .rule ≡ 1 → Allowed (keeping 0 S) → Demanded S 0 m rs
-  pub underRule2 : S .rule ≡ 2 → Allowed (keeping 2 S) → Demanded S 2 m rs
+  pub once : (kept : ℕ) → Keeps (S .rule) kept → Allowed (keeping kept S) → Demanded (inUse (S .address)) S kept m rs
+  pub underRule1 : S .rule ≡ 1 → Allowed (keeping 0 S) → Demanded (inUse (S .address)) S 0 m rs
+  pub underRule2 : S .rule ≡ 2 → Allowed (keeping 2 S) → Demanded (inUse (S .address)) S 2 m rs
 
 -- ---- 28 PLACES by the rule: under rule 1, k is more than the counter, as document 01 has it; under rule 2, k + 2 is
 
@@ -55,7 +58,7 @@ pub record ShortOfPlaces (S : Settings) {text : List ℕ} (m : Meets text) (rs :
   pub captured : ℕ
   pub read : Words
   pub left : List Reply
-  pub came : Heard (opening (S .wanted) captured read) rs left
+  pub came : Heard (opening (S .address) (S .wanted) captured read) rs left
   pub counted : read .counter ≤ 28
   pub same : read .identity ≡ targetIn m .identity
   pub young : 6 ≤ read .revision / 16777216
@@ -69,7 +72,7 @@ pub record PlacesExactly (S : Settings) {text : List ℕ} (m : Meets text) (rs :
 -- ---- the other rule, with the same text, replies and other settings, whatever they are
 
 abbrev pub withRule : ℕ → Settings → Settings
-withRule r S = record { wanted = S .wanted; limit = S .limit; restore = S .restore; rule = r }
+withRule r S = record { wanted = S .wanted; limit = S .limit; restore = S .restore; rule = r; address = S .address }
 
 module _ (S : Settings) (text : List ℕ) (rs : List Reply) where
   pub record SameUnderBoth : Type 0 where

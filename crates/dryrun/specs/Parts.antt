@@ -1,5 +1,5 @@
--- The input of a dry run: a byte whether step 1 is wanted, two bytes poll limit, a byte RESTORE_CFG code, a byte house rule, four bytes
--- file length, the file, then replies as in tape; numbers lowest byte first. Assumes nothing.
+-- The input of a dry run: a byte whether step 1 is wanted, two bytes poll limit, a byte RESTORE_CFG code, a byte house rule, a byte
+-- write address, four bytes file length, the file, then replies as in tape; numbers lowest byte first. Assumes nothing.
 use Prim.Native.Nat.{ℕ, _+_, _*_, _-_}
 use mathlib.Core.Bool.{cond}
 use mathlib.Core.List.{List}
@@ -15,16 +15,17 @@ use Rattle.dryrun.specs.declared.Input.the-variants.{CutShort, TooLong, 
 unfoldable pub pair : ℕ → ℕ → ℕ
 pair a b = a + 256 * b
 
--- where the file starts: behind five bytes of settings and four of its length
+-- where the file starts: behind six bytes of settings and four of its length
 abbrev pub fileAt : ℕ
-fileAt = 9
+fileAt = 10
 
 unfoldable pub fileLength : List ℕ → ℕ
-fileLength s = pair (byte s 5) (byte s 6) + 65536 * pair (byte s 7) (byte s 8)
+fileLength s = pair (byte s 6) (byte s 7) + 65536 * pair (byte s 8) (byte s 9)
 
 -- 0 is no, anything else yes
 unfoldable pub settingsOf : List ℕ → Settings
-settingsOf s = record { wanted = ltb 0 (byte s 0); limit = pair (byte s 1) (byte s 2); restore = byte s 3; rule = byte s 4 }
+settingsOf s =
+    record { wanted = ltb 0 (byte s 0); limit = pair (byte s 1) (byte s 2); restore = byte s 3; rule = byte s 4; address = byte s 5 }
 
 unfoldable pub headerOf : List ℕ → ℕ → Header
 headerOf s file = record { settings = settingsOf s; behind = fileAt + file }

@@ -9,7 +9,7 @@ pub use parts::parse;
 use session::Settings;
 
 // Where the file starts: behind five bytes of settings and four of its length.
-pub const FILE_AT: usize = 9;
+pub const FILE_AT: usize = 10;
 
 // What stands at the front of an input that is whole: the settings, and the place behind the file.
 pub struct Header {

@@ -1,5 +1,5 @@
-// The input: a byte whether step 1 is wanted, two bytes poll limit, a byte RESTORE_CFG code, a byte house rule, four bytes file length,
-// the file, then replies as `tape` reads them. Numbers are lowest byte first.
+// The input: a byte whether step 1 is wanted, two bytes poll limit, a byte RESTORE_CFG code, a byte house rule, a byte write address,
+// four bytes file length, the file, then replies as `tape` reads them. Numbers are lowest byte first.
 use crate::FILE_AT;
 use crate::Header;
 use crate::Input;
@@ -21,8 +21,8 @@ fn file_length(input: &[u8]) -> usize
     requires { ⌜ fileAt ≤ length (now input) ⌝ }
     ensures { λ r. ⌜ r ≡ fileLength (now (input .entry)) ⌝ }
 {
-    let low = two(input[5], input[6]);
-    let high = two(input[7], input[8]);
+    let low = two(input[6], input[7]);
+    let high = two(input[8], input[9]);
     low as usize + 65536 * (high as usize)
 }
 
@@ -36,6 +36,7 @@ fn header(input: &[u8], file: usize) -> Header
             limit: two(input[1], input[2]),
             restore: input[3],
             rule: input[4],
+            address: input[5],
         },
         behind: FILE_AT + file,
     }

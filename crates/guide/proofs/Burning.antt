@@ -81,7 +81,7 @@ module _ (n : ℕ) (m : Mark) (q : Request) (p : Plan) (unlike : isBurnMark n m 
 
 -- ---- step 3, from line i on, before a rest without write lines
 
-module _ (n : ℕ) (rest : Plan) (plain : (rs : List Reply) → burnsIn n (requests rest rs) ≡ 0) where
+module _ (n address : ℕ) (rest : Plan) (plain : (rs : List Reply) → burnsIn n (requests rest rs) ≡ 0) where
   heard-none : (h : ReplyForm) (rs : List Reply) → burnsIn n (requests (hear h (λ _. rest)) rs) ≡ 0
   unfolding hear requests burnsIn
   heard-none Unanswered rs = refl
@@ -90,14 +90,14 @@ module _ (n : ℕ) (rest : Plan) (plain : (rs : List Reply) → burnsIn n (reque
   heard-none (Good w) rs = plain rs
 
   abbrev out : ℕ → List Line → List Reply → List Asked
-  out i ls rs = requests (lines i ls rest) rs
+  out i ls rs = requests (lines address i ls rest) rs
 
   pub lines-once : (i : ℕ) (ls : List Line) (rs : List Reply) → 1 ≤ length ls → i + length ls ≡ n + 1 → AllInForm (beforeBurn n (out i ls rs)) rs
       → burnsIn n (out i ls rs) ≡ 1
   unfolding lines requests burnsIn beforeBurn isBurnMark hear
   lines-once i [] rs h e f = absurd (let y : ⊥ = omega arith in y)
   lines-once i (l ∷ []) [] h e f = rw (eq-eqb i n (omega arith))
-  lines-once i (l ∷ []) (r ∷ rs) h e f = rw (eq-eqb i n (omega arith)) (ap suc (heard-none (formOf (lineRequest l) (r .kind) (r .bytes)) rs))
+  lines-once i (l ∷ []) (r ∷ rs) h e f = rw (eq-eqb i n (omega arith)) (ap suc (heard-none (formOf (lineRequest address l) (r .kind) (r .bytes)) rs))
   lines-once i (l ∷ l2 ∷ ls) rs h e f =
-      once-on n (fileLine i) (lineRequest l) (lines (i + 1) (l2 ∷ ls) rest) (ne-eqb i n (omega arith)) rs
+      once-on n (fileLine i) (lineRequest address l) (lines address (i + 1) (l2 ∷ ls) rest) (ne-eqb i n (omega arith)) rs
       (λ last g. lines-once (i + 1) (l2 ∷ ls) last (omega arith) (omega arith) g) f

@@ -25,7 +25,7 @@ module _ (T : Terms) (file : Summary) (ls : List Line) (rs : List Reply) (counte
     rest = behind T file
 
     abbrev from : List Reply → List Asked
-    from last = requests (lines 5 ls rest) last
+    from last = requests (lines (T .address) 5 ls rest) last
 
     abbrev out : List Asked
     out = requests (guide T file ls) rs
@@ -41,7 +41,7 @@ module _ (T : Terms) (file : Summary) (ls : List Line) (rs : List Reply) (counte
       before-is = rw (x .list) (before-behind n (x .before) _ (x .plain))
 
       reached-once : AllInForm (beforeBurn n out) rs → burnsIn n out ≡ 1
-      reached-once f = burns-are ∙ lines-once n rest no-more 5 ls (m .left) some (omega arith) (x .form-here _ (rw before-is at f))
+      reached-once f = burns-are ∙ lines-once n (T .address) rest no-more 5 ls (m .left) some (omega arith) (x .form-here _ (rw before-is at f))
 
     pub burns-once : Matched T (targetOf file) rs → AllInForm (beforeBurn n out) rs → burnsIn n out ≡ 1
     burns-once m f = reached-once (reached T file ls rs m) f

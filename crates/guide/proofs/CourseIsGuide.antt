@@ -85,34 +85,34 @@ module _ (T : Terms) (file : Summary) (text : List ℕ) where
   ls = writeLinesOf text
 
   abbrev c : Content
-  c = contentOf file text
+  c = contentOf (T .address) file text
 
   abbrev P : Plan
   P = guideFor T file text
 
   abbrev rest : Plan
-  rest = step5 (file .configs) (step6 T file)
+  rest = step5 (T .address) (file .configs) (step6 T file)
 
-  opened-leads : (w : Said) → Leads P (opened T c w) (gate (fitFor T file (w .read)) (lines 5 ls (behind T file)))
+  opened-leads : (w : Said) → Leads P (opened T c w) (gate (fitFor T file (w .read)) (lines (T .address) 5 ls (behind T file)))
   unfolding guideFor guide
-  opened-leads w = opens T file (lines 5 ls (behind T file)) (T .wanted) (w .captured) (w .read) .leads
+  opened-leads w = opens T file (lines (T .address) 5 ls (behind T file)) (T .wanted) (w .captured) (w .read) .leads
 
   -- steps 1 to 3 and the pointing of step 4, then the statuses before the last
-  polled-leads : (w : Said) → Fitting T c w → {ys : List Exchange} {p : Plan} → Leads (polls (suc (T .limit - suc (length (w .busy)))) rest) ys p
-      → Leads P (opened T c w ++ (heard3 (c .lines) ++ (wrote (pointTo 0x7E 0x00) ∷ (heard4 (w .busy) ++ ys)))) p
+  polled-leads : (w : Said) → Fitting T c w → {ys : List Exchange} {p : Plan} → Leads (polls (T .address) (suc (T .limit - suc (length (w .busy)))) rest) ys p
+      → Leads P (opened T c w ++ (heard3 (c .lines) ++ (wrote (pointTo (T .address) 0x7E 0x00) ∷ (heard4 (T .address) (w .busy) ++ ys)))) p
   unfolding gate step4
   polled-leads w f {ys} {p} k =
       let n = T .limit in
-      let run = polls-run rest (suc (n - suc (length (w .busy)))) n (w .busy) (omega (arith, f .polling .within)) (f .polling .clear) k in
-      let step4 : Leads (behind T file) (wrote (pointTo 0x7E 0x00) ∷ (heard4 (w .busy) ++ ys)) p = on _ run in
-      both (rw (judged-exactly (targetOf file) (T .kept) (w .read) .passes (f .fits)) at (opened-leads w)) (lines-leads step4 5 ls)
+      let run = polls-run (T .address) rest (suc (n - suc (length (w .busy)))) n (w .busy) (omega (arith, f .polling .within)) (f .polling .clear) k in
+      let step4 : Leads (behind T file) (wrote (pointTo (T .address) 0x7E 0x00) ∷ (heard4 (T .address) (w .busy) ++ ys)) p = on _ run in
+      both (rw (judged-exactly (targetOf file) (T .kept) (w .read) .passes (f .fits)) at (opened-leads w)) (lines-leads step4 (T .address) 5 ls)
 
   shown-leads : (w : Said) → Programmed T c w → {ys : List Exchange} {p : Plan}
-      → Leads rest (wrote (pointTo 0x7F 0x00) ∷ got readData (w .banks) ∷ ys) p → Leads P (shown T c w ys) p
-  shown-leads w g k = polled-leads w (g .fitting) (poll-passes rest _ (w .last) (g .passed) k)
+      → Leads rest (wrote (pointTo (T .address) 0x7F 0x00) ∷ got (readData (T .address)) (w .banks) ∷ ys) p → Leads P (shown T c w ys) p
+  shown-leads w g k = polled-leads w (g .fitting) (poll-passes (T .address) rest _ (w .last) (g .passed) k)
 
   reported-leads : (w : Said) → Reported T c w → {ys : List Exchange} {p : Plan} → Leads (step6 T file) ys p → Leads P (shown T c w ys) p
-  reported-leads w r k = shown-leads w (r .programmed) (step5-leads k (file .configs) (w .banks) (are-right (file .configs) (w .banks) (r .right)))
+  reported-leads w r k = shown-leads w (r .programmed) (step5-leads k (T .address) (file .configs) (w .banks) (are-right (file .configs) (w .banks) (r .right)))
 
   run-leads : {ys : List Exchange} → Run T c ys → (p : Plan) × Leads P ys p
   unfolding polls step5
@@ -140,9 +140,9 @@ module _ (T : Terms) (file : Summary) (text : List ℕ) where
         let i = fit-is (targetOf file) (T .kept) (w .read) f in
         ends-so (Halted (i .0)) (rw (i .1) at (opened-leads w)) h (rw (i .2, i .3))
     judged-so h (PROGRAM w f ended g) =
-        ends-so (Halted Program) (polled-leads w f (poll-fails rest _ (w .last) (used-up w f ended) g)) h refl
+        ends-so (Halted Program) (polled-leads w f (poll-fails (T .address) rest _ (w .last) (used-up w f ended) g)) h refl
     judged-so h (BANKS w g f) =
-        ends-so (Halted Banks) (shown-leads w g (banks-fail (step6 T file) (file .configs) (w .banks) (wrong-banks (w .banks) few f))) h refl
+        ends-so (Halted Banks) (shown-leads w g (banks-fail (T .address) (step6 T file) (file .configs) (w .banks) (wrong-banks (w .banks) few f))) h refl
     judged-so h (MISMATCH w r before x behind crc e f) =
         let n : 0 + length before ≡ length before = omega arith in
         ends-so (Mismatch (configNumber (length before)))

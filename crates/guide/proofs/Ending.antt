@@ -24,14 +24,14 @@ use Rattle.guide.proofs.Through.{Leads, arrived, on}
 use Rattle.guide.proofs.Statuses.{busy-is, passed-is, failed-is}
 use Rattle.guide.specs.Terms.{Terms}
 
-module _ (rest : Plan) where
+module _ (address : ℕ) (rest : Plan) where
   -- a poll that passes
-  pub poll-passes : {p : Plan} {ys : List Exchange} (n w : ℕ) → w % 64 ≡ 1 → Leads rest ys p → Leads (polls (suc n) rest) (got readData w ∷ ys) p
+  pub poll-passes : {p : Plan} {ys : List Exchange} (n w : ℕ) → w % 64 ≡ 1 → Leads rest ys p → Leads (polls address (suc n) rest) (got (readData address) w ∷ ys) p
   unfolding polls polled
-  poll-passes {p} {ys} n w e k = let l : Leads (polled (polledOf w) (polls n rest) rest) ys p = rw (passed-is w e) k in on _ l
+  poll-passes {p} {ys} n w e k = let l : Leads (polled (polledOf w) (polls address n rest) rest) ys p = rw (passed-is w e) k in on _ l
 
   -- a poll that ended and does not
-  pub poll-fails : (n w : ℕ) → (w % 2 ≡ 1) ⊎ (n ≡ 0) → (w % 64 ≡ 1 → ⊥) → Leads (polls (suc n) rest) (got readData w ∷ []) (done (Halted Program))
+  pub poll-fails : (n w : ℕ) → (w % 2 ≡ 1) ⊎ (n ≡ 0) → (w % 64 ≡ 1 → ⊥) → Leads (polls address (suc n) rest) (got (readData address) w ∷ []) (done (Halted Program))
   unfolding polls polled
   poll-fails n w ended f = on _ l
     where
@@ -39,16 +39,16 @@ module _ (rest : Plan) where
       used e (inl g) = absurd (let y : ⊥ = omega arith in y)
       used e (inr g) = g
 
-      l : Leads (polled (polledOf w) (polls n rest) rest) [] (done (Halted Program))
+      l : Leads (polled (polledOf w) (polls address n rest) rest) [] (done (Halted Program))
       l =
           split (eqb (w % 2) 0)
           (λ e. let g = eqb-true (w % 2) 0 e in rw (busy-is w g, used g ended) arrived)
           (λ e. rw (failed-is w (eqb-false (w % 2) 0 e) f) arrived)
 
-pub banks-fail : (rest : Plan) (n banks : ℕ) → banksRight n banks ≡ false
-    → Leads (step5 n rest) (wrote (pointTo 0x7F 0x00) ∷ got readData banks ∷ []) (done (Halted Banks))
+pub banks-fail : (address : ℕ) (rest : Plan) (n banks : ℕ) → banksRight n banks ≡ false
+    → Leads (step5 address n rest) (wrote (pointTo address 0x7F 0x00) ∷ got (readData address) banks ∷ []) (done (Halted Banks))
 unfolding step5
-banks-fail rest n banks e = let l : Leads (cond (banksRight n banks) rest (done (Halted Banks))) [] (done (Halted Banks)) = rw e arrived in on _ (on _ l)
+banks-fail address rest n banks e = let l : Leads (cond (banksRight n banks) rest (done (Halted Banks))) [] (done (Halted Banks)) = rw e arrived in on _ (on _ l)
 
 module _ (T : Terms) (file : Summary) where
   -- the first whose CRC differs

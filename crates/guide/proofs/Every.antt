@@ -23,7 +23,7 @@ use Rattle.guide.specs.declared.Polled.{Polled}
 use Rattle.guide.specs.declared.Polled.the-variants.{Busy, Passed, Failed}
 use Rattle.guide.specs.Judged.{polledOf, banksRight}
 use Rattle.guide.specs.Plan.{Reply, Mark, other, Asked, Plan, ask, done, requests}
-use Rattle.guide.specs.Requests.{device, pointTo, readData, readBlock}
+use Rattle.guide.specs.Requests.{pointTo, readData, readBlock}
 use Rattle.guide.specs.Guide.{hear, put, gate, step1, step2, lines, linesAs, polled, polls, step4, step5, idIn, crcIn, verify, step6, guide}
 use Rattle.guide.specs.Statements.{lineAsked}
 use Rattle.guide.proofs.Through.{asked}
@@ -36,7 +36,7 @@ pub data Every (P : Asked → Type 0) : ℕ → Plan → Type 0 where
 
 -- steps 4 to 6
 abbrev pub behind : Terms → Summary → Plan
-behind T file = step4 T (step5 (file .configs) (step6 T file))
+behind T file = step4 T (step5 (T .address) (file .configs) (step6 T file))
 
 module _ {P : Asked → Type 0} where
   pub every-request : {most : ℕ} {p : Plan} → Every P most p → (rs : List Reply) (q : Asked) → List·Memᴰ q (requests p rs) → P q
@@ -53,13 +53,13 @@ module _ {P : Asked → Type 0} where
 
 -- the requests that are no write lines of the file
 pub data Other (T : Terms) (file : Summary) : Request → Type 0 where
-  point : (low high : ℕ) → Other T file (pointTo low high)
-  word : Other T file readData
-  identity : Other T file (readBlock 0xAD)
-  revision : Other T file (readBlock 0xAE)
-  set : (w : ℕ) → Other T file (writeOf device 0xC5 (wordBytes w))
-  command : Other T file (writeOf device 0xE7 (0x02 ∷ 0x00 ∷ []))
-  load : (N : ℕ) → Other T file (writeOf device (T .restore) (idIn file N ∷ []))
+  point : (low high : ℕ) → Other T file (pointTo (T .address) low high)
+  word : Other T file (readData (T .address))
+  identity : Other T file (readBlock (T .address) 0xAD)
+  revision : Other T file (readBlock (T .address) 0xAE)
+  set : (w : ℕ) → Other T file (writeOf (T .address) 0xC5 (wordBytes w))
+  command : Other T file (writeOf (T .address) 0xE7 (0x02 ∷ 0x00 ∷ []))
+  load : (N : ℕ) → Other T file (writeOf (T .address) (T .restore) (idIn file N ∷ []))
 
 -- a plan that is over asks nothing
 ruleset over = ends
@@ -98,16 +98,16 @@ module _ {P : Asked → Type 0} where
   polled-every Failed f g = search over
 
   -- write lines, from number i on
-  lines-every : {most : ℕ} (i : ℕ) (ts : List (List ℕ)) (rest : Plan)
-      → ((j : ℕ) → j < length ts → P (lineAsked (i + j) (lineOf (valuesOf digitVal (getD ts j []))))) → Every P most rest
-      → Every P (length ts + most) (lines i (linesAs ts) rest)
+  lines-every : {most : ℕ} (address i : ℕ) (ts : List (List ℕ)) (rest : Plan)
+      → ((j : ℕ) → j < length ts → P (lineAsked address (i + j) (lineOf (valuesOf digitVal (getD ts j []))))) → Every P most rest
+      → Every P (length ts + most) (lines address i (linesAs ts) rest)
   unfolding lines linesAs
-  lines-every i [] rest f g = up _ (omega arith) g
-  lines-every {most} i (t ∷ ts) rest f g =
+  lines-every address i [] rest f g = up _ (omega arith) g
+  lines-every {most} address i (t ∷ ts) rest f g =
       let here : i + 0 ≡ i = omega arith in
       up _ (omega arith)
       (put-every {most = length ts + most} _ _ _ (rw here at (f 0 (omega arith))) λ _.
-      lines-every (i + 1) ts rest (λ j h. let next : i + 1 + j ≡ i + suc j = omega arith in rw next (f (suc j) (omega arith))) g)
+      lines-every address (i + 1) ts rest (λ j h. let next : i + 1 + j ≡ i + suc j = omega arith in rw next (f (suc j) (omega arith))) g)
 
   module _ (T : Terms) (file : Summary) (others : (q : Request) → Other T file q → P (asked other q)) where
     other-every : {most : ℕ} (q : Request) (next : ℕ → Plan) → Other T file q → ((w : ℕ) → Every P most (next w))
@@ -122,11 +122,11 @@ module _ {P : Asked → Type 0} where
         (other-every {most = suc (suc (3 * left))} _ _ (load _) λ _. other-every _ _ (point _ _) λ _. other-every _ _ word λ w.
         cond-every (eqb w (crcIn file N)) (verify-every left (N + 1)) ends)
 
-    step5-every : {most : ℕ} (k : ℕ) (rest : Plan) → Every P most rest → Every P (suc (suc most)) (step5 k rest)
+    step5-every : {most : ℕ} (k : ℕ) (rest : Plan) → Every P most rest → Every P (suc (suc most)) (step5 (T .address) k rest)
     unfolding step5
     step5-every k rest f = other-every _ _ (point _ _) λ _. other-every _ _ word λ w. cond-every (banksRight k w) f ends
 
-    polls-every : {most : ℕ} (left : ℕ) (rest : Plan) → Every P most rest → Every P (left + most) (polls left rest)
+    polls-every : {most : ℕ} (left : ℕ) (rest : Plan) → Every P most rest → Every P (left + most) (polls (T .address) left rest)
     unfolding polls
     polls-every zero rest f = ends
     polls-every {most} (suc left) rest f =
@@ -146,15 +146,15 @@ module _ {P : Asked → Type 0} where
         other-every _ _ (point _ _) λ _. other-every _ _ word λ counter. other-every _ _ identity λ identity.
         other-every _ _ (point _ _) λ _. other-every _ _ word λ flag. other-every _ _ revision λ revision. gate-every _ f
 
-    step1-every : {most : ℕ} (rest : Plan) → Every P most rest → Every P (suc (suc (suc (suc most)))) (step1 rest)
+    step1-every : {most : ℕ} (rest : Plan) → Every P most rest → Every P (suc (suc (suc (suc most)))) (step1 (T .address) rest)
     unfolding step1
     step1-every rest f =
         other-every _ _ (point _ _) λ _. other-every _ _ word λ w. other-every _ _ (set _) λ _. other-every _ _ command λ _. f
 
     -- steps 1 and 2 are ten, 4 and 5 three beside the polls
-    pub guide-every : (ts : List (List ℕ)) → ((j : ℕ) → j < length ts → P (lineAsked (5 + j) (lineOf (valuesOf digitVal (getD ts j [])))))
+    pub guide-every : (ts : List (List ℕ)) → ((j : ℕ) → j < length ts → P (lineAsked (T .address) (5 + j) (lineOf (valuesOf digitVal (getD ts j [])))))
         → Every P (length ts + T .limit + 3 * file .configs + 13) (guide T file (linesAs ts))
     unfolding guide
     guide-every ts f =
-        let rest = step2-every _ (lines-every 5 ts _ f behind-every) in
+        let rest = step2-every _ (lines-every (T .address) 5 ts _ f behind-every) in
         cond-every (T .wanted) (up _ (omega arith) (step1-every _ rest)) (up _ (omega arith) rest)

@@ -42,7 +42,7 @@ module _ (target : Target) {kept less : ℕ} (fewer : less ≤ kept) (read : Wor
 
 module _ (T : Terms) (less : ℕ) (fewer : less ≤ T .kept) (c : Content) where
   abbrev U : Terms
-  U = record { wanted = T .wanted; limit = T .limit; restore = T .restore; kept = less }
+  U = record { wanted = T .wanted; limit = T .limit; restore = T .restore; kept = less; address = T .address }
 
   same6 : (xs : List Config) → heard6 U xs ≡ heard6 T xs
   unfolding heard6

@@ -19,7 +19,7 @@ use Rattle.guide.specs.Terms.{Terms}
 
 module _ (T : Terms) (file : Summary) (ls : List Line) (rs : List Reply) where
   abbrev gated : Plan
-  gated = lines 5 ls (behind T file)
+  gated = lines (T .address) 5 ls (behind T file)
 
   abbrev out : List Asked
   out = requests (guide T file ls) rs
@@ -28,7 +28,7 @@ module _ (T : Terms) (file : Summary) (ls : List Line) (rs : List Reply) where
   pub record Reached (m : Matched T (targetOf file) rs) : Type 0 where
     pub before : List Asked
     pub list : out ≡ before ++ requests gated (m .left)
-    pub asked : bare before ≡ askedIn (opening (T .wanted) (m .captured) (m .read))
+    pub asked : bare before ≡ askedIn (opening (T .address) (T .wanted) (m .captured) (m .read))
     pub plain : linesIn before ≡ []
     pub form-here : (qs : List Asked) → AllInForm (before ++ qs) rs → AllInForm qs (m .left)
     pub form-there : (qs : List Asked) → AllInForm qs (m .left) → AllInForm (before ++ qs) rs
@@ -50,7 +50,7 @@ module _ (T : Terms) (file : Summary) (ls : List Line) (rs : List Reply) where
       }
 
   first-line : (some : List Line) (last : List Reply) → 1 ≤ length some
-      → (l : Line) × (more : List Line) × (rest : List Asked) × (some ≡ l ∷ more) × (requests (lines 5 some (behind T file)) last ≡ lineAsked 5 l ∷ rest)
+      → (l : Line) × (more : List Line) × (rest : List Asked) × (some ≡ l ∷ more) × (requests (lines (T .address) 5 some (behind T file)) last ≡ lineAsked (T .address) 5 l ∷ rest)
   unfolding lines requests
   first-line [] last h = absurd (let y : ⊥ = omega arith in y)
   first-line (l ∷ more) [] h = (l, more, [], refl, refl)
@@ -58,7 +58,7 @@ module _ (T : Terms) (file : Summary) (ls : List Line) (rs : List Reply) where
 
   pub gate-next : 1 ≤ length ls → (m : Matched T (targetOf file) rs)
       → (before : List Asked) × (l : Line) × (more : List Line) × (rest : List Asked)
-      × (ls ≡ l ∷ more) × (out ≡ before ++ (lineAsked 5 l ∷ rest)) × (bare before ≡ askedIn (opening (T .wanted) (m .captured) (m .read)))
+      × (ls ≡ l ∷ more) × (out ≡ before ++ (lineAsked (T .address) 5 l ∷ rest)) × (bare before ≡ askedIn (opening (T .address) (T .wanted) (m .captured) (m .read)))
   gate-next h m =
       let x = reached m in
       let y = first-line ls (m .left) h in

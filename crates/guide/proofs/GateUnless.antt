@@ -30,10 +30,10 @@ module _ (T : Terms) (file : Summary) (text : List ℕ) (few : file .configs ≤
   out = bare (requests (guideFor T file text) rs)
 
   abbrev c : Content
-  c = contentOf file text
+  c = contentOf (T .address) file text
 
   abbrev pub Begins12 : Type 0
-  Begins12 = (captured : ℕ) × (read : Words) × (rest : List Request) × (askedIn (opening (T .wanted) captured read) ≡ out ++ rest)
+  Begins12 = (captured : ℕ) × (read : Words) × (rest : List Request) × (askedIn (opening (T .address) (T .wanted) captured read) ≡ out ++ rest)
 
   abbrev said : ℕ → Words → Said
   said captured read = record { captured = captured; read = read; busy = []; last = 0; banks = 0 }
@@ -43,7 +43,7 @@ module _ (T : Terms) (file : Summary) (text : List ℕ) (few : file .configs ≤
   out-is o silent = course-so T file text few rs (waits _ o) .asks
   out-is o (told r later m N f) = course-so T file text few rs (refused _ r later o m N f) .asks
 
-  stuck-begins : (captured : ℕ) (read : Words) → Stuck (opening (T .wanted) captured read) rs → Begins12
+  stuck-begins : (captured : ℕ) (read : Words) → Stuck (opening (T .address) (T .wanted) captured read) rs → Begins12
   stuck-begins captured read s =
       let k = next-asks (s .next) in
       let o : Out T c rs (s .request) (s .left)
@@ -52,10 +52,10 @@ module _ (T : Terms) (file : Summary) (text : List ℕ) (few : file .configs ≤
 
   pub gate-unless12 : Matched T (targetOf file) rs ⊎ Begins12
   gate-unless12 =
-      opening-any (T .wanted) rs (λ captured read s. inr (stuck-begins captured read s))
+      opening-any (T .address) (T .wanted) rs (λ captured read s. inr (stuck-begins captured read s))
       λ captured read left h. by captured read left h (fitOf (targetOf file) (T .kept) read) refl
     where
-      by : (captured : ℕ) (read : Words) (left : List Reply) → Heard (opening (T .wanted) captured read) rs left
+      by : (captured : ℕ) (read : Words) (left : List Reply) → Heard (opening (T .address) (T .wanted) captured read) rs left
           → (x : Fit) → fitOf (targetOf file) (T .kept) read ≡ x → Matched T (targetOf file) rs ⊎ Begins12
       by captured read left h fit.Matched e =
           inl (record { captured = captured; read = read; left = left; came = h; fits = judged-exactly (targetOf file) (T .kept) read .matches e })

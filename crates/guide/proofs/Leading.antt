@@ -25,31 +25,32 @@ use Rattle.guide.specs.Terms.{Terms}
 -- ---- step 3
 
 module _ {p rest : Plan} {ys : List Exchange} (k : Leads rest ys p) where
-  pub lines-leads : (i : ℕ) (ls : List Line) → Leads (lines i ls rest) (heard3 (lineRequests ls) ++ ys) p
+  pub lines-leads : (address i : ℕ) (ls : List Line) → Leads (lines address i ls rest) (heard3 (lineRequests address ls) ++ ys) p
   unfolding lines heard3 lineRequests
-  lines-leads i [] = k
-  lines-leads i (l ∷ ls) = on _ (lines-leads (i + 1) ls)
+  lines-leads address i [] = k
+  lines-leads address i (l ∷ ls) = on _ (lines-leads address (i + 1) ls)
 
 -- ---- step 4
 
-module _ (rest : Plan) where
+module _ (address : ℕ) (rest : Plan) where
   -- statuses with bit 0 clear lead to the polls that are left behind them
-  pub polls-run : {p : Plan} {ys : List Exchange} (n left : ℕ) (busy : List ℕ) → length busy + n ≡ left → Clear busy → Leads (polls n rest) ys p
-      → Leads (polls left rest) (heard4 busy ++ ys) p
+  pub polls-run : {p : Plan} {ys : List Exchange} (n left : ℕ) (busy : List ℕ) → length busy + n ≡ left → Clear busy → Leads (polls address n rest) ys p
+      → Leads (polls address left rest) (heard4 address busy ++ ys) p
   unfolding heard4 polls polled
   polls-run n left [] e f k = let z : left ≡ n = omega arith in rw z k
   polls-run n zero (b ∷ busy) e f k = absurd (let y : ⊥ = omega arith in y)
   polls-run {p} {ys} n (suc left) (b ∷ busy) e f k =
-      let l : Leads (polled (polledOf b) (polls left rest) rest) (heard4 busy ++ ys) p
+      let l : Leads (polled (polledOf b) (polls address left rest) rest) (heard4 address busy ++ ys) p
       = rw (busy-is b (f 0 (omega arith))) (polls-run n left busy (omega arith) (λ i g. f (suc i) (omega arith)) k) in
       on _ l
 
 -- ---- step 5
 
 module _ {p rest : Plan} {ys : List Exchange} (k : Leads rest ys p) where
-  pub step5-leads : (n banks : ℕ) → banksRight n banks ≡ true → Leads (step5 n rest) (wrote (pointTo 0x7F 0x00) ∷ got readData banks ∷ ys) p
+  pub step5-leads : (address n banks : ℕ) → banksRight n banks ≡ true
+      → Leads (step5 address n rest) (wrote (pointTo address 0x7F 0x00) ∷ got (readData address) banks ∷ ys) p
   unfolding step5
-  step5-leads n banks e = let l : Leads (cond (banksRight n banks) rest (done (Halted Banks))) ys p = rw e k in on _ (on _ l)
+  step5-leads address n banks e = let l : Leads (cond (banksRight n banks) rest (done (Halted Banks))) ys p = rw e k in on _ (on _ l)
 
 -- ---- step 6
 

@@ -1,16 +1,14 @@
 -- One answer: any two results that the promise of a public function allows for the same input are equal. tests/check-unique holds each
 -- of these to the source. Assumes nothing.
 use mathlib.Core.Path.{_≡_}
-use mathlib.Core.List.{List, [], _∷_}
+use mathlib.Core.List.{List}
 use Prim.Native.Nat.{ℕ, _%_, _/_}
-use lib.ListN.{take}
-use Rattle.bus.specs.Bus.{writeOf, readOf}
 use Rattle.line.specs.declared.Line.{Line}
 use Rattle.guide.specs.declared.Reason.{Reason}
 use Rattle.guide.specs.declared.Verdict.{Verdict}
 use Rattle.guide.specs.Numbers.{reasonNumber, verdictTold}
 use Rattle.guide.specs.Judged.{banksRight, cleared, fitOf, kindWanted, polledOf}
-use Rattle.guide.specs.Requests.{device, pointTo, lineRequestWith}
+use Rattle.guide.specs.Requests.{pointTo, lineRequestWith}
 use Rattle.guide.specs.Guide.{targetOf}
 use Rattle.promise.specs.One.{One}
 use Rattle.promise.proofs.Equal.{one-answer}
@@ -42,14 +40,8 @@ one-Verdict-told self = one-answer _
 pub one-cleared : (word : ℕ) → One (λ r. r ≡ cleared word)
 one-cleared word = one-answer _
 
-pub one-write : (command count a b c d : ℕ) → One (λ r. r ≡ writeOf device command (take count (a ∷ b ∷ c ∷ d ∷ [])))
-one-write command count a b c d = one-answer _
+pub one-point : (address register : ℕ) → One (λ r. r ≡ pointTo address (register % 256) (register / 256))
+one-point address register = one-answer _
 
-pub one-read : (command count : ℕ) → One (λ r. r ≡ readOf device command count)
-one-read command count = one-answer _
-
-pub one-point : (register : ℕ) → One (λ r. r ≡ pointTo (register % 256) (register / 256))
-one-point register = one-answer _
-
-pub one-line-request : (table : List ℕ) (line : Line) → One (λ r. r ≡ lineRequestWith table line)
-one-line-request table line = one-answer _
+pub one-line-request : (address : ℕ) (table : List ℕ) (line : Line) → One (λ r. r ≡ lineRequestWith address table line)
+one-line-request address table line = one-answer _

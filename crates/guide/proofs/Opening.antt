@@ -21,16 +21,16 @@ module _ (T : Terms) (file : Summary) where
 
   -- both steps, or the second alone
   abbrev pub begun : Bool → Plan → Plan
-  begun wanted rest = cond wanted (step1 (step2 T file rest)) (step2 T file rest)
+  begun wanted rest = cond wanted (step1 (T .address) (step2 T file rest)) (step2 T file rest)
 
   module _ (rest : Plan) where
-    step2-leads : (read : Words) → Leads (step2 T file rest) (heard2 read) (gate (fitFor read) rest)
+    step2-leads : (read : Words) → Leads (step2 T file rest) (heard2 (T .address) read) (gate (fitFor read) rest)
     unfolding step2
     step2-leads read = on _ (on _ (on _ (on _ (on _ (on _ arrived)))))
 
     -- the path of both, with what it asks
     pub record Opens (wanted : Bool) (captured : ℕ) (read : Words) : Type 0 where
-      pub leads : Leads (begun wanted rest) (opening wanted captured read) (gate (fitFor read) rest)
+      pub leads : Leads (begun wanted rest) (opening (T .address) wanted captured read) (gate (fitFor read) rest)
       pub plain : linesIn (asksOf leads) ≡ []
 
     pub opens : (wanted : Bool) (captured : ℕ) (read : Words) → Opens wanted captured read

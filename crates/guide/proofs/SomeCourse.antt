@@ -18,7 +18,7 @@ use Rattle.guide.specs.declared.Words.{Words}
 use Rattle.guide.specs.Terms.{Terms}
 use Rattle.guide.specs.Judged.{fitOf, banksRight}
 use Rattle.guide.specs.Plan.{Reply}
-use Rattle.guide.specs.Requests.{device, readData}
+use Rattle.guide.specs.Requests.{readData}
 use Rattle.guide.specs.Guide.{targetOf, writeLinesOf}
 use Rattle.guide.specs.Matched.{Exchange, Heard, none, Fits}
 use Rattle.guide.specs.Course.{Content, contentOf, heard4, Said, Polling, Now, Fitting, Programmed, Reported, unfit, PROGRAM, BANKS, MISMATCH, DONE}
@@ -31,7 +31,7 @@ use Rattle.guide.proofs.StepByStep.{Last, silent, told, read-any, write
 
 module _ (T : Terms) (file : Summary) (text : List ℕ) (some : 1 ≤ T .limit) (few : file .configs ≤ 8) (rs : List Reply) where
   abbrev c : Content
-  c = contentOf file text
+  c = contentOf (T .address) file text
 
   abbrev Some : Type 0
   Some = (x : Now) × (qs : List Request) × Course T c rs x qs
@@ -60,8 +60,8 @@ module _ (T : Terms) (file : Summary) (text : List ℕ) (some : 1 ≤ T .limit) 
 
   step5-any : (w : Said) (r : List Reply) → ((banks : ℕ) → Programmed T c (said (w .captured) (w .read) (w .busy) (w .last) banks)) → Goes (polled T c w) r → Some
   step5-any w r ok g =
-      write-any 0xC7 (0x7F ∷ 0x00 ∷ []) r (λ h. ends (step5 _ (ok 0)) (g .stops _ (stuck h))) λ r1 c1.
-      read-any readData (register device) r1 (λ h. ends (step5 _ (ok 0)) (g .stops _ (on c1 (stuck h)))) λ banks r2 c2.
+      write-any (T .address) 0xC7 (0x7F ∷ 0x00 ∷ []) r (λ h. ends (step5 _ (ok 0)) (g .stops _ (stuck h))) λ r1 c1.
+      read-any (readData (T .address)) (register (T .address)) r1 (λ h. ends (step5 _ (ok 0)) (g .stops _ (on c1 (stuck h)))) λ banks r2 c2.
       split (banksRight (file .configs) banks)
       (λ e. step6-any _ r2 (record { programmed = ok banks; right = right-are (file .configs) banks few e })
       (record { heard = λ xs left h. g .heard _ left (then c1 (then c2 h)); stops = λ xs k. g .stops _ (on c1 (on c2 k)) }))
@@ -87,9 +87,9 @@ module _ (T : Terms) (file : Summary) (text : List ℕ) (some : 1 ≤ T .limit) 
   fitted : (captured : ℕ) (read : Words) (r1 : List Reply) → Heard (opened T c (said captured read [] 0 0)) rs r1 → Fits (c .target) (T .kept) read → Some
   unfolding heard4
   fitted captured read r1 h1 f =
-      lines-any (writeLinesOf text) r1 (λ k. ends (run [] none-busy) (behind h1 (before _ k))) λ r2 h2.
-      write-any 0xC7 (0x7E ∷ 0x00 ∷ []) r2 (λ h. ends (run [] none-busy) (behind h1 (behind h2 (stuck h)))) λ r3 c3.
-      polls-any (T .limit - 1) r3 (λ busy p k. ends (run busy (limit p)) (behind h1 (behind h2 (on c3 k))))
+      lines-any (T .address) (writeLinesOf text) r1 (λ k. ends (run [] none-busy) (behind h1 (before _ k))) λ r2 h2.
+      write-any (T .address) 0xC7 (0x7E ∷ 0x00 ∷ []) r2 (λ h. ends (run [] none-busy) (behind h1 (behind h2 (stuck h)))) λ r3 c3.
+      polls-any (T .address) (T .limit - 1) r3 (λ busy p k. ends (run busy (limit p)) (behind h1 (behind h2 (on c3 k))))
       (λ busy w mid r4 p e t d. polled-any captured read busy w r4 f (limit p) (used busy w e)
       (record {
         heard = λ xs left h. heard-both h1 (heard-both h2 (then c3 (heard-both t (then d h))));
@@ -104,7 +104,7 @@ module _ (T : Terms) (file : Summary) (text : List ℕ) (some : 1 ≤ T .limit) 
 
   pub some-course : Some
   some-course =
-      opening-any (T .wanted) rs (λ captured read s. ends (steps12 (said captured read [] 0 0)) s)
+      opening-any (T .address) (T .wanted) rs (λ captured read s. ends (steps12 (said captured read [] 0 0)) s)
       (λ captured read r1 h1. by captured read r1 h1 (fitOf (targetOf file) (T .kept) read) refl)
     where
       by : (captured : ℕ) (read : Words) (r1 : List Reply) → Heard (opened T c (said captured read [] 0 0)) rs r1

@@ -7,7 +7,6 @@ use Rattle.bus.specs.Bus.{eight, framed, writeOf, wordBytes}
 use Rattle.bus.specs.InForm.{spelled}
 use Rattle.guide.specs.Judged.{cleared}
 use Rattle.guide.specs.Cleared.{WritesBack}
-use Rattle.guide.specs.Requests.{device}
 
 -- four bytes of a word spell it
 nested : (x : ℕ) → x < 4294967296 → spelled (x % 256) (x / 256 % 256) (x / 256 / 256 % 256) (x / 256 / 256 / 256 % 256) ≡ x
@@ -21,9 +20,9 @@ cleared-bits : (w : ℕ) → (cleared w / 32 % 2 ≡ 0) × (cleared w % 32 ≡ w
 unfolding cleared
 cleared-bits w = (omega arith, omega arith, omega arith, omega arith)
 
-pub writes-back : (w : ℕ) → w < 4294967296 → WritesBack w (writeOf device 0xC5 (wordBytes (cleared w)))
+pub writes-back : (address w : ℕ) → w < 4294967296 → WritesBack address w (writeOf address 0xC5 (wordBytes (cleared w)))
 unfolding writeOf framed wordBytes eight
-writes-back w h =
+writes-back address w h =
     let x = cleared w in
     let bits = cleared-bits w in
     let whole = respelled x (omega (arith, bits .3)) in

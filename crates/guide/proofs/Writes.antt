@@ -13,7 +13,6 @@ use Rattle.bus.specs.Bus.{framed, writeOf}
 use Rattle.bus.specs.InForm.{Made, write}
 use Rattle.bus.proofs.FormMeans.{good-is}
 use Rattle.guide.specs.Plan.{Reply}
-use Rattle.guide.specs.Requests.{device}
 use Rattle.guide.specs.Matched.{got, Heard, more}
 
 -- a write is answered with no word
@@ -29,17 +28,17 @@ abbrev pub Came : Request → ℕ → List Reply → List Reply → Type 0
 Came q w rs rest = Heard (got q w ∷ []) rs rest
 
 -- a write is one of the requests that there are
-pub made-write : (command : ℕ) (bs : List ℕ) → Made (writeOf device command bs)
+pub made-write : (address command : ℕ) (bs : List ℕ) → Made (writeOf address command bs)
 unfolding writeOf
-made-write command bs = write _ _
+made-write address command bs = write _ _
 
-write-writes : (command : ℕ) (bs : List ℕ) → writeOf device command bs .reads ≡ false
+write-writes : (address command : ℕ) (bs : List ℕ) → writeOf address command bs .reads ≡ false
 unfolding writeOf framed
-write-writes command bs = refl
+write-writes address command bs = refl
 
-pub came-none : (command : ℕ) (bs : List ℕ) {w : ℕ} {rs rest : List Reply} → Came (writeOf device command bs) w rs rest
-    → Came (writeOf device command bs) 0 rs rest
-came-none command bs {w} (more _ _ r rest left i h) =
-    let q = writeOf device command bs in
-    let z : w ≡ 0 = wrote-none q w (r .kind) (r .bytes) (write-writes command bs) (good-is i) in
+pub came-none : (address command : ℕ) (bs : List ℕ) {w : ℕ} {rs rest : List Reply} → Came (writeOf address command bs) w rs rest
+    → Came (writeOf address command bs) 0 rs rest
+came-none address command bs {w} (more _ _ r rest left i h) =
+    let q = writeOf address command bs in
+    let z : w ≡ 0 = wrote-none q w (r .kind) (r .bytes) (write-writes address command bs) (good-is i) in
     rw z at (more (got q w) [] r rest left i h)

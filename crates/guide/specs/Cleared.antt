@@ -7,13 +7,13 @@ use lib.ListN.{take}
 use Rattle.bus.specs.declared.Request.{Request}
 use Rattle.bus.specs.InForm.{spelled}
 
--- a write of C5 with four bytes, lowest first, that spell the word w with bit 5 clear and the other 31 bits as they were
-pub record WritesBack (w : ℕ) (q : Request) : Type 0 where
+-- a write of C5 to this address with four bytes, lowest first, that spell the word w with bit 5 clear and the other 31 bits as they were
+pub record WritesBack (address w : ℕ) (q : Request) : Type 0 where
   pub a : ℕ
   pub b : ℕ
   pub c : ℕ
   pub d : ℕ
-  pub bytes : take 6 (q .bytes) ≡ 0xC0 ∷ 0xC5 ∷ a ∷ b ∷ c ∷ d ∷ []
+  pub bytes : take 6 (q .bytes) ≡ address ∷ 0xC5 ∷ a ∷ b ∷ c ∷ d ∷ []
   -- with the PEC behind them
   pub used : q .used ≡ 7
   pub writes : q .reads ≡ false

@@ -16,7 +16,7 @@ use Rattle.guide.specs.declared.Words.{Words}
 use Rattle.guide.specs.Numbers.{verdictTold}
 use Rattle.guide.specs.Terms.{Terms}
 use Rattle.guide.specs.Plan.{Reply, Outcome, waiting as unfinished, ended, requests, verdict, bare}
-use Rattle.guide.specs.Requests.{device, pointTo, readData, lineRequest}
+use Rattle.guide.specs.Requests.{pointTo, readData, lineRequest}
 use Rattle.guide.specs.Guide.{targetOf, idIn, crcIn, writeLinesOf, guideFor}
 use Rattle.guide.specs.Matched.{Exchange, wrote, got, Heard, askedIn, opening, Fits}
 use Rattle.guide.specs.Verdicts.{ReplyTable, FitTable}
@@ -41,13 +41,14 @@ heard3 [] = []
 heard3 (q ∷ qs) = wrote q ∷ heard3 qs
 
 -- the status reads, one after the other
-unfoldable pub heard4 : List ℕ → List Exchange
-heard4 [] = []
-heard4 (w ∷ ws) = got readData w ∷ heard4 ws
+unfoldable pub heard4 : ℕ → List ℕ → List Exchange
+heard4 address [] = []
+heard4 address (w ∷ ws) = got (readData address) w ∷ heard4 address ws
 
 -- of one configuration: this CRC was read
 abbrev pub heardConfig : Terms → Config → ℕ → List Exchange
-heardConfig T c crc = wrote (writeOf device (T .restore) (c .id ∷ [])) ∷ wrote (pointTo 0x94 0x00) ∷ got readData crc ∷ []
+heardConfig T c crc =
+    wrote (writeOf (T .address) (T .restore) (c .id ∷ [])) ∷ wrote (pointTo (T .address) 0x94 0x00) ∷ got (readData (T .address)) crc ∷ []
 
 -- of some: each CRC read is the file's
 unfoldable pub heard6 : Terms → List Config → List Exchange
@@ -88,13 +89,15 @@ pub data Next : List Exchange → List Exchange → Request → Type 0 where
 module _ (T : Terms) (c : Content) where
   -- steps 1 and 2; steps 1 to 4, and then these; steps 1 to 5, and then these
   abbrev pub opened : Said → List Exchange
-  opened w = opening (T .wanted) (w .captured) (w .read)
+  opened w = opening (T .address) (T .wanted) (w .captured) (w .read)
 
   abbrev pub polled : Said → List Exchange → List Exchange
-  polled w xs = opened w ++ (heard3 (c .lines) ++ (wrote (pointTo 0x7E 0x00) ∷ (heard4 (w .busy) ++ (got readData (w .last) ∷ xs))))
+  polled w xs =
+      opened w
+      ++ (heard3 (c .lines) ++ (wrote (pointTo (T .address) 0x7E 0x00) ∷ (heard4 (T .address) (w .busy) ++ (got (readData (T .address)) (w .last) ∷ xs))))
 
   abbrev pub shown : Said → List Exchange → List Exchange
-  shown w xs = polled w (wrote (pointTo 0x7F 0x00) ∷ got readData (w .banks) ∷ xs)
+  shown w xs = polled w (wrote (pointTo (T .address) 0x7F 0x00) ∷ got (readData (T .address)) (w .banks) ∷ xs)
 
   -- none of 23 to 28, and a poll left; then none of 29; then none of 30
   pub record Fitting (w : Said) : Type 0 where
@@ -154,19 +157,20 @@ unfoldable pub nowOf : Outcome → Now
 nowOf unfinished = waiting
 nowOf (ended v) = over (verdictTold v .number) (verdictTold v .config .0)
 
-unfoldable pub lineRequests : List Line → List Request
-lineRequests [] = []
-lineRequests (l ∷ ls) = lineRequest l ∷ lineRequests ls
+unfoldable pub lineRequests : ℕ → List Line → List Request
+lineRequests address [] = []
+lineRequests address (l ∷ ls) = lineRequest address l ∷ lineRequests address ls
 
 -- so many, from N on
 unfoldable pub configsIn : Summary → ℕ → ℕ → List Config
 configsIn file zero N = []
 configsIn file (suc left) N = record { id = idIn file N; crc = crcIn file N } ∷ configsIn file left (N + 1)
 
-abbrev pub contentOf : Summary → List ℕ → Content
-contentOf file text = record { target = targetOf file; lines = lineRequests (writeLinesOf text); configs = configsIn file (file .configs) 0 }
+abbrev pub contentOf : ℕ → Summary → List ℕ → Content
+contentOf address file text =
+    record { target = targetOf file; lines = lineRequests address (writeLinesOf text); configs = configsIn file (file .configs) 0 }
 
 pub record CourseExactly (T : Terms) (file : Summary) (text : List ℕ) (rs : List Reply) : Type 0 where
-  pub goes : Course T (contentOf file text) rs (nowOf (verdict (guideFor T file text) rs)) (bare (requests (guideFor T file text) rs))
-  pub only : (x : Now) (qs : List Request) → Course T (contentOf file text) rs x qs
+  pub goes : Course T (contentOf (T .address) file text) rs (nowOf (verdict (guideFor T file text) rs)) (bare (requests (guideFor T file text) rs))
+  pub only : (x : Now) (qs : List Request) → Course T (contentOf (T .address) file text) rs x qs
       → (x ≡ nowOf (verdict (guideFor T file text) rs)) × (qs ≡ bare (requests (guideFor T file text) rs))

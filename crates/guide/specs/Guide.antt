@@ -24,7 +24,7 @@ use Rattle.guide.specs.declared.Fit.the-variants.{Matched, Fails}
 use Rattle.guide.specs.declared.Polled.{Polled}
 use Rattle.guide.specs.declared.Polled.the-variants.{Busy, Passed, Failed}
 use Rattle.guide.specs.Terms.{Terms}
-use Rattle.guide.specs.Requests.{device, pointTo, readData, readBlock, lineRequest}
+use Rattle.guide.specs.Requests.{pointTo, readData, readBlock, lineRequest}
 use Rattle.guide.specs.Plan.{Mark, other, fileLine, Plan, ask, done}
 use Rattle.guide.specs.Judged.{cleared, fitOf, polledOf, banksRight}
 
@@ -45,9 +45,10 @@ abbrev pub read : Request → (ℕ → Plan) → Plan
 read q next = put other q next
 
 -- step 1: write C7 A2 00; read C5; write C5 with the four bytes read and bit 5 of the first cleared; write E7 02 00
-unfoldable pub step1 : Plan → Plan
-step1 rest =
-    write (pointTo 0xA2 0x00) (read readData λ w. write (writeOf device 0xC5 (wordBytes (cleared w))) (write (writeOf device 0xE7 (0x02 ∷ 0x00 ∷ [])) rest))
+unfoldable pub step1 : ℕ → Plan → Plan
+step1 address rest =
+    write (pointTo address 0xA2 0x00) (read (readData address) λ w.
+    write (writeOf address 0xC5 (wordBytes (cleared w))) (write (writeOf address 0xE7 (0x02 ∷ 0x00 ∷ [])) rest))
 
 -- the way on where none of 23 to 28 applies
 unfoldable pub gate : Fit → Plan → Plan
@@ -62,19 +63,20 @@ targetOf file = record { kind = file .kind; identity = file .identity; configs =
 -- are judged when all four are read
 unfoldable pub step2 : Terms → Summary → Plan → Plan
 step2 T file rest =
-    write (pointTo 0x35 0x00) (read readData λ counter.
-    read (readBlock 0xAD) λ identity.
-    write (pointTo 0x87 0xBD) (read readData λ flag.
-    read (readBlock 0xAE) λ revision.
+    let address = T .address in
+    write (pointTo address 0x35 0x00) (read (readData address) λ counter.
+    read (readBlock address 0xAD) λ identity.
+    write (pointTo address 0x87 0xBD) (read (readData address) λ flag.
+    read (readBlock address 0xAE) λ revision.
     gate (fitOf (targetOf file) (T .kept) (record { counter = counter; identity = identity; flag = flag; revision = revision })) rest))
 
--- step 3: the write lines 5 to n, as they stand
-unfoldable pub lines : ℕ → List Line → Plan → Plan
-lines i [] rest = rest
-lines i (l ∷ ls) rest = put (fileLine i) (lineRequest l) λ _. lines (i + 1) ls rest
+-- step 3: the write lines 5 to n, with the address in use and their own PEC
+unfoldable pub lines : ℕ → ℕ → List Line → Plan → Plan
+lines address i [] rest = rest
+lines address i (l ∷ ls) rest = put (fileLine i) (lineRequest address l) λ _. lines address (i + 1) ls rest
 
-abbrev pub step3 : List Line → Plan → Plan
-step3 ls rest = lines 5 ls rest
+abbrev pub step3 : ℕ → List Line → Plan → Plan
+step3 address ls rest = lines address 5 ls rest
 
 -- step 4: write C7 7E 00; read C5 until bit 0 is 1 or the poll limit is used
 unfoldable pub polled : Polled → Plan → Plan → Plan
@@ -82,16 +84,17 @@ polled Busy again rest = again
 polled Passed again rest = rest
 polled Failed again rest = done (Halted Program)
 
-unfoldable pub polls : ℕ → Plan → Plan
-polls zero rest = done (Halted Program)
-polls (suc left) rest = read readData λ status. polled (polledOf status) (polls left rest) rest
+unfoldable pub polls : ℕ → ℕ → Plan → Plan
+polls address zero rest = done (Halted Program)
+polls address (suc left) rest = read (readData address) λ status. polled (polledOf status) (polls address left rest) rest
 
 unfoldable pub step4 : Terms → Plan → Plan
-step4 T rest = write (pointTo 0x7E 0x00) (polls (T .limit) rest)
+step4 T rest = write (pointTo (T .address) 0x7E 0x00) (polls (T .address) (T .limit) rest)
 
 -- step 5: write C7 7F 00; read C5: banks
-unfoldable pub step5 : ℕ → Plan → Plan
-step5 k rest = write (pointTo 0x7F 0x00) (read readData λ banks. cond (banksRight k banks) rest (done (Halted Banks)))
+unfoldable pub step5 : ℕ → ℕ → Plan → Plan
+step5 address k rest =
+    write (pointTo address 0x7F 0x00) (read (readData address) λ banks. cond (banksRight k banks) rest (done (Halted Banks)))
 
 -- step 6, for N from 0: write RESTORE_CFG with one data byte, the identifier; write C7 94 00; read C5
 unfoldable pub idIn : Summary → ℕ → ℕ
@@ -103,7 +106,8 @@ crcIn file N = getD (file .crcs) N 0
 unfoldable pub verify : Terms → Summary → ℕ → ℕ → Plan
 verify T file zero N = done Done
 verify T file (suc left) N =
-    write (writeOf device (T .restore) (idIn file N ∷ [])) (write (pointTo 0x94 0x00) (read readData λ crc.
+    let address = T .address in
+    write (writeOf address (T .restore) (idIn file N ∷ [])) (write (pointTo address 0x94 0x00) (read (readData address) λ crc.
     cond (eqb crc (crcIn file N)) (verify T file left (N + 1)) (done (Mismatch (configNumber N)))))
 
 abbrev pub step6 : Terms → Summary → Plan
@@ -112,8 +116,8 @@ step6 T file = verify T file (file .configs) 0
 -- the whole, from the terms, what a file says, and its write lines
 unfoldable pub guide : Terms → Summary → List Line → Plan
 guide T file ls =
-    let rest = step2 T file (step3 ls (step4 T (step5 (file .configs) (step6 T file)))) in
-    cond (T .wanted) (step1 rest) rest
+    let rest = step2 T file (step3 (T .address) ls (step4 T (step5 (T .address) (file .configs) (step6 T file)))) in
+    cond (T .wanted) (step1 (T .address) rest) rest
 
 -- ---- of a text
 

@@ -1,5 +1,6 @@
 pub mod Terms
 pub mod Requests
+pub mod Wire
 pub mod Numbers
 pub mod Judged
 pub mod Plan

@@ -13,7 +13,7 @@ use Rattle.bus.specs.InForm.{InForm}
 use Rattle.guide.specs.declared.Target.{Target}
 use Rattle.guide.specs.declared.Words.{Words}
 use Rattle.guide.specs.Terms.{Terms}
-use Rattle.guide.specs.Requests.{device, pointTo, readData, readBlock}
+use Rattle.guide.specs.Requests.{pointTo, readData, readBlock}
 use Rattle.guide.specs.Plan.{Reply}
 use Rattle.guide.specs.Judged.{cleared}
 
@@ -41,21 +41,22 @@ unfoldable pub askedIn : List Exchange → List Request
 askedIn [] = []
 askedIn (x ∷ xs) = x .request ∷ askedIn xs
 
--- ---- steps 1 and 2
+-- ---- steps 1 and 2, with the address in use
 
-abbrev pub heard1 : ℕ → List Exchange
-heard1 w =
-    wrote (pointTo 0xA2 0x00) ∷ got readData w ∷ wrote (writeOf device 0xC5 (wordBytes (cleared w))) ∷ wrote (writeOf device 0xE7 (0x02 ∷ 0x00 ∷ [])) ∷ []
+abbrev pub heard1 : ℕ → ℕ → List Exchange
+heard1 address w =
+    wrote (pointTo address 0xA2 0x00) ∷ got (readData address) w ∷ wrote (writeOf address 0xC5 (wordBytes (cleared w)))
+    ∷ wrote (writeOf address 0xE7 (0x02 ∷ 0x00 ∷ [])) ∷ []
 
-abbrev pub heard2 : Words → List Exchange
-heard2 read =
-    wrote (pointTo 0x35 0x00) ∷ got readData (read .counter) ∷ got (readBlock 0xAD) (read .identity) ∷ wrote (pointTo 0x87 0xBD)
-    ∷ got readData (read .flag) ∷ got (readBlock 0xAE) (read .revision) ∷ []
+abbrev pub heard2 : ℕ → Words → List Exchange
+heard2 address read =
+    wrote (pointTo address 0x35 0x00) ∷ got (readData address) (read .counter) ∷ got (readBlock address 0xAD) (read .identity)
+    ∷ wrote (pointTo address 0x87 0xBD) ∷ got (readData address) (read .flag) ∷ got (readBlock address 0xAE) (read .revision) ∷ []
 
 -- step 1 if wanted, then step 2
-unfoldable pub opening : Bool → ℕ → Words → List Exchange
-opening true w read = heard1 w ++ heard2 read
-opening false w read = heard2 read
+unfoldable pub opening : ℕ → Bool → ℕ → Words → List Exchange
+opening address true w read = heard1 address w ++ heard2 address read
+opening address false w read = heard2 address read
 
 -- ---- identity, revision, file kind and remaining places
 
@@ -78,5 +79,5 @@ pub record Matched (T : Terms) (target : Target) (rs : List Reply) : Type 0 wher
   pub captured : ℕ
   pub read : Words
   pub left : List Reply
-  pub came : Heard (opening (T .wanted) captured read) rs left
+  pub came : Heard (opening (T .address) (T .wanted) captured read) rs left
   pub fits : Fits target (T .kept) read

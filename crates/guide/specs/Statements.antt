@@ -5,14 +5,14 @@ use mathlib.Core.Bool.{Bool, true, false, cond}
 use mathlib.Core.List.{List, [], _∷_, _++_, List·Memᴰ}
 use Prim.Native.Nat.{ℕ, suc, _+_, _-_, _*_, _≤_}
 use lib.Dec.{eqb}
-use lib.ListN.{length, getD, drop}
+use lib.ListN.{length, getD}
 use Rattle.counts.specs.Counts.{configNumber}
 use Rattle.line.specs.declared.Line.{Line}
 use Rattle.cuts.specs.Lines.{linesOf}
 use Rattle.line.specs.Digits.{digitVal, valuesOf}
 use Rattle.summary.specs.declared.Summary.{Summary}
+use Rattle.bus.specs.declared.Request.{Request}
 use Rattle.bus.specs.declared.ReplyForm.the-variants.{Good}
-use Rattle.bus.specs.Bus.{eight}
 use Rattle.bus.specs.ReplyForm.{formOf}
 use Rattle.guide.specs.declared.Verdict.{Verdict}
 use Rattle.guide.specs.declared.Fit.the-variants as fit
@@ -23,6 +23,7 @@ use Rattle.guide.specs.Terms.{Terms}
 use Rattle.guide.specs.Judged.{fitOf}
 use Rattle.guide.specs.Plan.{Reply, Mark, other, fileLine, Asked, Plan, ended, requests, verdict}
 use Rattle.guide.specs.Requests.{lineRequest}
+use Rattle.guide.specs.Wire.{Wire}
 use Rattle.guide.specs.Guide.{guideFor}
 use Rattle.guide.specs.Matched.{Fits, Matched}
 
@@ -42,8 +43,8 @@ unfoldable pub linesIn : List Asked → List Asked
 linesIn [] = []
 linesIn (q ∷ qs) = cond (isLine (q .mark)) (q ∷ linesIn qs) (linesIn qs)
 
-abbrev pub lineAsked : ℕ → Line → Asked
-lineAsked i l = record { mark = fileLine i; request = lineRequest l }
+abbrev pub lineAsked : ℕ → ℕ → Line → Asked
+lineAsked address i l = record { mark = fileLine i; request = lineRequest address l }
 
 unfoldable pub isBurnMark : ℕ → Mark → Bool
 isBurnMark n other = false
@@ -64,19 +65,16 @@ pub data AllInForm : List Asked → List Reply → Type 0 where
   more : (q : Asked) (qs : List Asked) (r : Reply) (rs : List Reply) (w : ℕ) → formOf (q .request) (r .kind) (r .bytes) ≡ Good w → AllInForm qs rs
       → AllInForm (q ∷ qs) (r ∷ rs)
 
--- how often the burn's bytes, C0 E7 08 00 DA, stand among some requests, whatever their marks
+-- how often the burn's bytes stand among some requests, whatever their marks
 unfoldable pub sameBytes : List ℕ → List ℕ → Bool
 sameBytes [] [] = true
 sameBytes [] (y ∷ ys) = false
 sameBytes (x ∷ xs) [] = false
 sameBytes (x ∷ xs) (y ∷ ys) = cond (eqb x y) (sameBytes xs ys) false
 
-abbrev pub burnBytes : List ℕ
-burnBytes = 0xC0 ∷ 0xE7 ∷ 0x08 ∷ 0x00 ∷ 0xDA ∷ []
-
-unfoldable pub spellings : List Asked → ℕ
-spellings [] = 0
-spellings (q ∷ qs) = cond (sameBytes (q .request .bytes) (eight burnBytes)) (suc (spellings qs)) (spellings qs)
+unfoldable pub spellings : Request → List Asked → ℕ
+spellings burn [] = 0
+spellings burn (q ∷ qs) = cond (sameBytes (q .request .bytes) (burn .bytes)) (suc (spellings burn qs)) (spellings burn qs)
 
 -- by the terms, what the file says, its text, and the replies
 module _ (T : Terms) (file : Summary) (text : List ℕ) (rs : List Reply) where
@@ -87,14 +85,15 @@ module _ (T : Terms) (file : Summary) (text : List ℕ) (rs : List Reply) where
   unfoldable pub Bounded : Type 0
   Bounded = length list ≤ file .lines + T .limit + 3 * file .configs + 9
 
-  -- a request marked line i has exactly the bytes of line i of the text, from its address to its CRC
-  pub record MarksTell : Type 0 where
+  -- a request marked line i is line i of the text on the wire: with the address in use, the line's command and data, and their PEC; at C0,
+  -- from its address to its CRC as it stands
+  pub record MarksTell (W : Wire) : Type 0 where
     pub tells : (q : Asked) (i : ℕ) → List·Memᴰ q list → q .mark ≡ fileLine i
-        → (5 ≤ i) × (i ≤ file .lines) × (q .request .bytes ≡ eight (drop 2 (valuesOf digitVal (getD (linesOf text) (i - 1) []))))
+        → (5 ≤ i) × (i ≤ file .lines) × (q .request ≡ W .line (valuesOf digitVal (getD (linesOf text) (i - 1) [])))
 
   -- the burn's bytes are put out exactly as often as the burn is
-  unfoldable pub SpelledOnce : Type 0
-  SpelledOnce = spellings list ≡ burnsIn (file .lines) list
+  unfoldable pub SpelledOnce : Wire → Type 0
+  SpelledOnce W = spellings (W .burn) list ≡ burnsIn (file .lines) list
 
 -- ---- of every plan
 

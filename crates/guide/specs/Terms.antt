@@ -11,3 +11,5 @@ pub record Terms : Type 0 where
   pub restore : ℕ
   -- the device's places that are kept free
   pub kept : ℕ
+  -- the device's write address
+  pub address : ℕ

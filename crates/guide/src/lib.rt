@@ -11,8 +11,6 @@ pub use found::banks_right;
 pub use requests::cleared;
 pub use requests::line_request;
 pub use requests::point;
-pub use requests::read;
-pub use requests::write;
 use summary::Refusal;
 
 // Why a session that had begun is halted, 20 to 30.

@@ -1,10 +1,11 @@
--- What the simulated regulator answers: in form, from what it holds (document 01, "The session"). Assumes nothing.
+-- What the simulated regulator answers: at its own address, in form, from what it holds (document 01, "The session"; document 02, R-2).
+-- Assumes nothing.
 use Prim.Native.Nat.{ℕ}
 use mathlib.Core.List.{[], _∷_, _++_}
 use mathlib.Core.Bool.{cond}
 use lib.Dec.{eqb}
 use lib.ListN.{getD}
-use Rattle.bus.specs.Bus.{wordBytes}
+use Rattle.bus.specs.Bus.{readAddress, wordBytes}
 use Rattle.bus.specs.declared.Request.{Request}
 use Rattle.pec.specs.Pec.{pec}
 use Rattle.host.specs.declared.Regulator.{Regulator}
@@ -19,14 +20,14 @@ unfoldable pub took : Reply
 took = record { kind = 1; count = 0; bytes = 0 ∷ 0 ∷ 0 ∷ 0 ∷ 0 ∷ 0 ∷ [] }
 
 -- four bytes, lowest first, and their PEC
-unfoldable pub wordReply : ℕ → ℕ → Reply
-wordReply command w =
-    record { kind = 1; count = 5; bytes = wordBytes w ++ (pec (0xC0 ∷ command ∷ 0xC1 ∷ wordBytes w) ∷ 0 ∷ []) }
+unfoldable pub wordReply : ℕ → ℕ → ℕ → Reply
+wordReply address command w =
+    record { kind = 1; count = 5; bytes = wordBytes w ++ (pec (address ∷ command ∷ readAddress address ∷ wordBytes w) ∷ 0 ∷ []) }
 
 -- the count 4, four bytes, lowest first, and their PEC
-unfoldable pub blockReply : ℕ → ℕ → Reply
-blockReply command w =
-    record { kind = 1; count = 6; bytes = 4 ∷ (wordBytes w ++ (pec (0xC0 ∷ command ∷ 0xC1 ∷ 4 ∷ wordBytes w) ∷ [])) }
+unfoldable pub blockReply : ℕ → ℕ → ℕ → Reply
+blockReply address command w =
+    record { kind = 1; count = 6; bytes = 4 ∷ (wordBytes w ++ (pec (address ∷ command ∷ readAddress address ∷ 4 ∷ wordBytes w) ∷ [])) }
 
 -- what the register that was pointed to shows
 unfoldable pub valueOf : Regulator → ℕ
@@ -39,9 +40,13 @@ valueOf d =
 -- identity and revision are blocks
 unfoldable pub readReply : Regulator → ℕ → Reply
 readReply d command =
-    cond (eqb command 0xAD) (blockReply command (d .file .identity))
-    (cond (eqb command 0xAE) (blockReply command 0x06000000) (wordReply command (valueOf d)))
+    cond (eqb command 0xAD) (blockReply (d .address) command (d .file .identity))
+    (cond (eqb command 0xAE) (blockReply (d .address) command 0x06000000) (wordReply (d .address) command (valueOf d)))
 
+-- to a request that it hears
+unfoldable pub heardReply : Regulator → Request → Reply
+heardReply d q = cond (eqb (d .lasts) 0) silent (cond (q .reads) (readReply d (getD (q .bytes) 1 0)) took)
+
+-- what is for another address it does not acknowledge
 unfoldable pub deviceReply : Regulator → Request → Reply
-deviceReply d q =
-    cond (eqb (d .lasts) 0) silent (cond (q .reads) (readReply d (getD (q .bytes) 1 0)) took)
+deviceReply d q = cond (eqb (getD (q .bytes) 0 0) (d .address)) (heardReply d q) silent

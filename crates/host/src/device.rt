@@ -8,7 +8,7 @@ use counts::ConfigId;
 use counts::Kind;
 use summary::Summary;
 ghost use mathlib.Core.Path.{_≡_};
-ghost use Rattle.host.specs.Replies.{silent, took, wordReply, blockReply, valueOf, readReply, deviceReply};
+ghost use Rattle.host.specs.Replies.{silent, took, wordReply, blockReply, valueOf, readReply, heardReply, deviceReply};
 
 // The command that restores a configuration is a setting, since its code stood in a figure of the guide (document 01).
 pub(crate) const RESTORE: u8 = 0xF2;
@@ -34,15 +34,16 @@ impl Reply {
         }
     }
 
-    // To a read of C5: four bytes, lowest first, and the PEC of C0, the command, C1 and these.
-    fn word(command: u8, w: u32) -> Reply
-        ensures { λ r. ⌜ r ≡ wordReply command w ⌝ }
+    // To a read of C5: four bytes, lowest first, and the PEC of the address, the command, the read address and these.
+    fn word(address: u8, command: u8, w: u32) -> Reply
+        ensures { λ r. ⌜ r ≡ wordReply address command w ⌝ }
     {
         let a = (w % 256) as u8;
         let b = (w / 256 % 256) as u8;
         let c = (w / 65536 % 256) as u8;
         let d = (w / 16777216 % 256) as u8;
-        let covered = [Bus::WRITE, command, Bus::READ, a, b, c, d];
+        let again = Bus::read_address(address);
+        let covered = [address, command, again, a, b, c, d];
         Reply {
             kind: 1,
             count: 5,
@@ -51,14 +52,15 @@ impl Reply {
     }
 
     // To a read of AD or AE: the same with a 4 before the four bytes.
-    fn block(command: u8, w: u32) -> Reply
-        ensures { λ r. ⌜ r ≡ blockReply command w ⌝ }
+    fn block(address: u8, command: u8, w: u32) -> Reply
+        ensures { λ r. ⌜ r ≡ blockReply address command w ⌝ }
     {
         let a = (w % 256) as u8;
         let b = (w / 256 % 256) as u8;
         let c = (w / 65536 % 256) as u8;
         let d = (w / 16777216 % 256) as u8;
-        let covered = [Bus::WRITE, command, Bus::READ, 4, a, b, c, d];
+        let again = Bus::read_address(address);
+        let covered = [address, command, again, 4, a, b, c, d];
         Reply {
             kind: 1,
             count: 6,
@@ -123,10 +125,11 @@ fn is_burn(bytes: [u8; 8]) -> bool {
 }
 
 impl Regulator {
-    // A part that takes this file, and is busy for two polls after the burn.
-    pub(crate) fn fitting(file: Summary) -> Regulator {
+    // A part at this address that takes this file, and is busy for two polls after the burn.
+    pub(crate) fn fitting(file: Summary, address: u8) -> Regulator {
         let kind = file.kind;
         Regulator {
+            address: address,
             file: file,
             counter: counter_of(kind),
             flag: 0,
@@ -180,17 +183,18 @@ impl Regulator {
     fn read(self, command: u8) -> Reply
         ensures { λ r. ⌜ r ≡ readReply self command ⌝ }
     {
+        let address = self.address;
         if command == Bus::IDENTITY {
-            return Reply::block(command, self.file.identity);
+            return Reply::block(address, command, self.file.identity);
         }
         if command == Bus::REVISION {
-            return Reply::block(command, 0x06000000);
+            return Reply::block(address, command, 0x06000000);
         }
-        Reply::word(command, self.value())
+        Reply::word(address, command, self.value())
     }
 
     fn answered(self, request: Request) -> Reply
-        ensures { λ r. ⌜ r ≡ deviceReply self request ⌝ }
+        ensures { λ r. ⌜ r ≡ heardReply self request ⌝ }
     {
         if self.lasts == 0 {
             return Reply::silent();
@@ -246,13 +250,21 @@ impl Regulator {
         next.written(bytes)
     }
 
-    // The request goes to the device, and its reply comes back.
+    // The request goes to the device, and its reply comes back. What is for another address it does not hear.
     pub(crate) fn exchange(self, request: Request) -> Carried
         ensures { λ r. ⌜ r .reply ≡ deviceReply self request ⌝ }
     {
-        Carried {
-            regulator: self.after(request),
-            reply: self.answered(request),
+        let bytes = request.bytes;
+        if bytes[0] == self.address {
+            Carried {
+                regulator: self.after(request),
+                reply: self.answered(request),
+            }
+        } else {
+            Carried {
+                regulator: self,
+                reply: Reply::silent(),
+            }
         }
     }
 }

@@ -1,5 +1,5 @@
-// A host's loop against a simulated regulator, for the file on standard input: one run that ends well, two that do not, and two that the
-// house rule decides.
+// A host's loop against a simulated regulator, for the file on standard input: one run that ends well, two that do not, two that the
+// house rule decides, and two that the address decides.
 mod device;
 
 use libc::STDIN_FILENO;
@@ -10,8 +10,9 @@ use session::Session;
 use session::Settings;
 use summary::Summary;
 
-// A simulated regulator. It judges nothing, and answers in form while it lasts (specs/Statements.antt).
+// A simulated regulator. It judges nothing, and answers at its address, in form while it lasts (specs/Statements.antt).
 struct Regulator {
+    pub address: u8,
     // What it holds once it is programmed.
     pub file: Summary,
     pub counter: u32,
@@ -128,10 +129,11 @@ fn main() {
         limit: 10,
         restore: device::RESTORE,
         rule: 1,
+        address: 0xC0,
     };
     let checked = image::check(file);
     let summary = checked.summary;
-    let fitting = Regulator::fitting(summary);
+    let fitting = Regulator::fitting(summary, 0xC0);
 
     say(b"a regulator that fits the file\n");
     say_run(program(settings, file, fitting));
@@ -154,4 +156,13 @@ fn main() {
 
     say(b"the same regulator, under rule 1\n");
     say_run(program(settings, file, scarce));
+
+    say(b"a regulator that fits the file, at address 20\n");
+    let strapped = Regulator::fitting(summary, 0x20);
+    let mut elsewhere = settings;
+    elsewhere.address = 0x20;
+    say_run(program(elsewhere, file, strapped));
+
+    say(b"the same regulator, asked at address C0\n");
+    say_run(program(settings, file, strapped));
 }

@@ -30,6 +30,9 @@ ghost use Rattle.line.specs.Digits.{IsDigits, digitBy, valuesOf};
 ghost use Rattle.line.specs.Reading.{faultNumber, readValues, readDigits, nextBy};
 ghost use Rattle.line.specs.Lent.{lentNext};
 
+// The address that every line of a file carries, whatever address its device has (document 02, R-2).
+const ADDRESS: u8 = 0xC0;
+
 // What a good line says: its command, how many data bytes it has, the first four of them (zeros where there are fewer), its CRC.
 pub struct Line {
     pub command: u8,

@@ -1,4 +1,5 @@
 // The place in a line that a refusal is about, counted from 1 (request R-1).
+use crate::ADDRESS;
 use crate::Fault;
 use crate::LineRefusal;
 use crate::values::value_at;
@@ -64,7 +65,7 @@ fn form_place(n: u32, tag: u8, address: u8, command: u8) -> usize
 {
     let expected = tag_of(n);
     if tag == expected {
-        if address == Bus::WRITE {
+        if address == ADDRESS {
             if command_ok(n, command) { 9 } else { 7 }
         } else {
             5

@@ -1,4 +1,5 @@
 // The tests of a line: PAIRS, LENGTH, CRC and FORM.
+use crate::ADDRESS;
 use crate::values::crc_of;
 use crate::values::data_count;
 use crate::values::last_value;
@@ -94,7 +95,7 @@ pub(crate) fn body_ok(command: u8, count: usize) -> bool
 pub(crate) fn form_ok(n: u32, tag: u8, address: u8, command: u8, count: usize) -> bool
     ensures { λ r. ⌜ r ≡ formOk n tag address command count ⌝ }
 {
-    if address == Bus::WRITE {
+    if address == ADDRESS {
         if n <= 4 {
             if tag == 0x49 {
                 head_ok(n, command, count)

@@ -1,5 +1,6 @@
 // A write line in its usual form, 14 or 18 digits and the line's end behind them, is taken by the places of its digits, so that each
 // is looked up once. Anything else is left to the search for the end of the digits, which also finds the fault.
+use crate::ADDRESS;
 use crate::Ending;
 use crate::Line;
 use crate::Taken;
@@ -7,7 +8,6 @@ use crate::scan::end_at;
 use crate::tests::body_ok;
 use crate::values::digit;
 use crate::values::value_at;
-use bus::Bus;
 use counts::LineNumber;
 ghost use mathlib.Core.Path.{_≡_};
 ghost use mathlib.Core.List.{[], _∷_};
@@ -55,7 +55,7 @@ fn headed(digits: &[u8; 256], t: &[u8], size: u8) -> bool
 {
     if value_at(digits, t, 0) == 0 {
         if value_at(digits, t, 1) == size {
-            value_at(digits, t, 2) == Bus::WRITE
+            value_at(digits, t, 2) == ADDRESS
         } else {
             false
         }
@@ -68,7 +68,7 @@ fn headed(digits: &[u8; 256], t: &[u8], size: u8) -> bool
 fn code_of_two(table: &[u8; 256], command: u8, d0: u8, d1: u8) -> u8
     ensures { λ r. ⌜ r ≡ runWith (now (table .entry)) 0 (0xC0 ∷ command ∷ d0 ∷ d1 ∷ []) ⌝ }
 {
-    let address = pec::step_with(table, 0, Bus::WRITE);
+    let address = pec::step_with(table, 0, ADDRESS);
     let head = pec::step_with(table, address, command);
     let first = pec::step_with(table, head, d0);
     pec::step_with(table, first, d1)

@@ -1,12 +1,12 @@
 -- Laws of the PEC's definitions, which callers use in place of their text. Assumes nothing.
-use mathlib.Core.Path.{_≡_, refl}
+use mathlib.Core.Path.{_≡_, refl, _∙_}
 use mathlib.Core.Bool.{Bool, true, false, cond}
 use mathlib.Core.List.{List, [], _∷_, _++_}
 use Prim.Native.Nat.{ℕ, zero, suc, _+_, _*_, _%_, _<_}
 use native.Mathlib.Omega.{arith}
 use native.Mathlib.Numerals.{add-one}
 use lib.Dec.{lit<}
-use lib.Bits.{bitXor, xor-lt}
+use lib.Bits.{bitXor, xor-lt, xor-self}
 use lib.ListN.{length, getD, take}
 use lib.Seq.{take-suc}
 use Rattle.pec.specs.Pec.{topBit, shift, shifts, remainder, step, pecFrom, pec}
@@ -49,6 +49,11 @@ pub pecFrom-append : (c : ℕ) (xs ys : List ℕ) → pecFrom c (xs ++ ys) ≡ p
 unfolding pecFrom
 pecFrom-append c [] ys = refl
 pecFrom-append c (x ∷ xs) ys = pecFrom-append (step c x) xs ys
+
+-- a code behind the bytes that it is of leaves 0
+pub pec-closed : (bs : List ℕ) → pec (bs ++ (pec bs ∷ [])) ≡ 0
+unfolding pecFrom step remainder shifts shift topBit
+pec-closed bs = pecFrom-append 0 bs (pec bs ∷ []) ∙ rw (xor-self (pec bs))
 
 pub runWith-append : (table : List ℕ) (c : ℕ) (xs ys : List ℕ) → runWith table c (xs ++ ys) ≡ runWith table (runWith table c xs) ys
 unfolding runWith

@@ -23,7 +23,7 @@ use Rattle.session.specs.declared.Stage.{Stage}
 use Rattle.session.specs.declared.Stage.the-variants.{Open, Ended}
 use Rattle.session.specs.declared.Awaited.the-variants.{CaptureAt, CounterAt}
 use Rattle.session.specs.Sound.{allowedOf}
-use Rattle.session.specs.Moves.{putOf, overOf}
+use Rattle.session.specs.Moves.{addressOf, putOf, overOf}
 
 -- nothing read yet
 abbrev pub noWords : Words
@@ -38,7 +38,7 @@ freshOf S f g p = record { settings = S; file = f; stage = g; hand = noRequest; 
 
 -- step 1 if wanted, else step 2: write C7 A2 00, or C7 35 00
 unfoldable pub firstOf : Session → Handed
-firstOf s = cond (s .settings .wanted) (putOf s CaptureAt (pointTo 0xA2 0x00)) (putOf s CounterAt (pointTo 0x35 0x00))
+firstOf s = cond (s .settings .wanted) (putOf s CaptureAt (pointTo (addressOf s) 0xA2 0x00)) (putOf s CounterAt (pointTo (addressOf s) 0x35 0x00))
 
 -- an accepted begin hands back the first request, count 1; the line in hand is 5, and the place is where it begins
 unfoldable pub startOf : Settings → Summary → Handed

@@ -1,5 +1,5 @@
--- Step 3 of document 01: the write lines go out as they stand, each read at the held place; where what stands there may not
--- go out, the state is refused. Assumes nothing.
+-- Step 3 of document 01: the write lines go out with the address in use and their own PEC, each read at the held place; where what
+-- stands there may not go out, the state is refused. Assumes nothing.
 use Prim.Native.Nat.{ℕ, _+_}
 use mathlib.Core.List.{List}
 use mathlib.Core.Bool.{Bool, true, cond}
@@ -16,14 +16,14 @@ use Rattle.session.specs.declared.Position.{Position}
 use Rattle.session.specs.declared.Session.{Session}
 use Rattle.session.specs.declared.Handed.{Handed}
 use Rattle.session.specs.declared.Awaited.the-variants.{LineOut, StatusAt}
-use Rattle.session.specs.Moves.{withPosition, withBurned, putOf, badOf}
+use Rattle.session.specs.Moves.{addressOf, withPosition, withBurned, putOf, badOf}
 
 unfoldable pub atLine : Position → LineNumber → ℕ → Position
 atLine p n place = record { line = n; place = place; config = p .config; polls = p .polls; read = p .read }
 
 -- the line goes out under its number, and the next one stands behind it
 unfoldable pub duePutOf : Session → Line → ℕ → LineNumber → Bool → Handed
-duePutOf s l next n burned = putOf (withBurned (withPosition s (atLine (s .position) n next)) burned) LineOut (lineRequest l)
+duePutOf s l next n burned = putOf (withBurned (withPosition s (atLine (s .position) n next)) burned) LineOut (lineRequest (addressOf s) l)
 
 -- line n and no other is the burn, and putting it out is reported from then on
 unfoldable pub tookOf : Session → Line → ℕ → LineNumber → Handed
@@ -45,4 +45,4 @@ putLineOf text s n = dueOf s n (nextLine n (s .position .place) text)
 unfoldable pub lineDoneOf : List ℕ → Session → Handed
 lineDoneOf text s =
     cond (ltb (s .position .line .0) (s .file .lines)) (putLineOf text s (lineNumber (s .position .line .0 + 1)))
-    (putOf s StatusAt (pointTo 0x7E 0x00))
+    (putOf s StatusAt (pointTo (addressOf s) 0x7E 0x00))

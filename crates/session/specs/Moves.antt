@@ -13,6 +13,10 @@ use Rattle.session.specs.declared.Awaited.{Awaited}
 use Rattle.session.specs.declared.Answer.the-variants.{Next, Over, BadState}
 use Rattle.session.specs.declared.Handed.{Handed}
 
+-- the device's write address, which every request goes to
+abbrev pub addressOf : Session → ℕ
+addressOf s = s .settings .address
+
 unfoldable pub withStage : Session → Stage → Request → Session
 withStage s g q = record { settings = s .settings; file = s .file; stage = g; hand = q; position = s .position; sent = s .sent; burned = s .burned }
 

@@ -1,6 +1,6 @@
 -- The settings that are allowed, and what a held state is to be before a reply is looked at (document 01, "15 STATE"). Assumes
 -- nothing.
-use Prim.Native.Nat.{ℕ, _+_, _*_}
+use Prim.Native.Nat.{ℕ, _+_, _*_, _%_}
 use mathlib.Core.List.{List, [], _∷_}
 use mathlib.Core.Bool.{Bool, true, false, cond, not}
 use lib.Dec.{eqb, ltb, leb}
@@ -21,9 +21,14 @@ all (b ∷ bs) = cond b (all bs) false
 unfoldable pub knownRule : ℕ → Bool
 knownRule rule = cond (eqb rule 1) true (eqb rule 2)
 
--- poll limit 1 to 10,000; RESTORE_CFG is none of the six other commands; the house rule
+-- a write address is even, 10 to EE hex (document 02, R-2)
+unfoldable pub isAddress : ℕ → Bool
+isAddress address = cond (leb 0x10 address) (cond (leb address 0xEE) (eqb (address % 2) 0) false) false
+
+-- poll limit 1 to 10,000; RESTORE_CFG is none of the six other commands; the house rule; the address
 unfoldable pub settingTests : Settings → List Bool
-settingTests S = leb 1 (S .limit) ∷ leb (S .limit) 10000 ∷ not (reserved (S .restore)) ∷ knownRule (S .rule) ∷ []
+settingTests S =
+    leb 1 (S .limit) ∷ leb (S .limit) 10000 ∷ not (reserved (S .restore)) ∷ knownRule (S .rule) ∷ isAddress (S .address) ∷ []
 
 unfoldable pub allowedOf : Settings → Bool
 allowedOf S = all (settingTests S)

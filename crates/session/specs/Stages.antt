@@ -14,7 +14,7 @@ use Rattle.guide.specs.declared.Fit.{Fit}
 use Rattle.guide.specs.declared.Fit.the-variants.{Matched, Fails}
 use Rattle.guide.specs.declared.Polled.{Polled}
 use Rattle.guide.specs.declared.Polled.the-variants.{Busy, Passed, Failed}
-use Rattle.guide.specs.Requests.{device, pointTo, readData, readBlock}
+use Rattle.guide.specs.Requests.{pointTo, readData, readBlock}
 use Rattle.guide.specs.Judged.{fitOf, polledOf, banksRight}
 use Rattle.guide.specs.Guide.{targetOf, idIn, crcIn}
 use Rattle.session.specs.declared.Position.{Position}
@@ -22,7 +22,7 @@ use Rattle.session.specs.declared.Session.{Session}
 use Rattle.session.specs.declared.Handed.{Handed}
 use Rattle.session.specs.declared.Awaited.the-variants.{IdentityRead, FlagAt, RevisionRead, StatusRead, BanksAt, Restore}
 use Rattle.session.specs.Terms.{keptOf}
-use Rattle.session.specs.Moves.{withPosition, putOf, endOf}
+use Rattle.session.specs.Moves.{addressOf, withPosition, putOf, endOf}
 use Rattle.session.specs.Lines.{putLineOf}
 
 unfoldable pub atRead : Position → Words → Position
@@ -53,13 +53,13 @@ abbrev pub havingRead : Session → Words → Session
 havingRead s read = withPosition s (atRead (s .position) read)
 
 unfoldable pub counterDoneOf : Session → ℕ → Handed
-counterDoneOf s w = putOf (havingRead s (withCounter (s .position .read) w)) IdentityRead (readBlock 0xAD)
+counterDoneOf s w = putOf (havingRead s (withCounter (s .position .read) w)) IdentityRead (readBlock (addressOf s) 0xAD)
 
 unfoldable pub identityDoneOf : Session → ℕ → Handed
-identityDoneOf s w = putOf (havingRead s (withIdentity (s .position .read) w)) FlagAt (pointTo 0x87 0xBD)
+identityDoneOf s w = putOf (havingRead s (withIdentity (s .position .read) w)) FlagAt (pointTo (addressOf s) 0x87 0xBD)
 
 unfoldable pub flagDoneOf : Session → ℕ → Handed
-flagDoneOf s w = putOf (havingRead s (withFlag (s .position .read) w)) RevisionRead (readBlock 0xAE)
+flagDoneOf s w = putOf (havingRead s (withFlag (s .position .read) w)) RevisionRead (readBlock (addressOf s) 0xAE)
 
 -- 23 to 28 are tried after the AE reply; where none applies, line 5 is due
 unfoldable pub fitDoneOf : List ℕ → Session → Fit → Handed
@@ -77,12 +77,12 @@ revisionDoneOf text s w = fitDoneOf text s (fitHeld s w)
 unfoldable pub pollAgainOf : Session → Handed
 pollAgainOf s =
     cond (ltb (s .position .polls + 1) (s .settings .limit))
-    (putOf (withPosition s (atPolls (s .position) (s .position .polls + 1))) StatusRead readData)
+    (putOf (withPosition s (atPolls (s .position) (s .position .polls + 1))) StatusRead (readData (addressOf s)))
     (endOf s (Halted Program))
 
 unfoldable pub polledDoneOf : Session → Polled → Handed
 polledDoneOf s Busy = pollAgainOf s
-polledDoneOf s Passed = putOf s BanksAt (pointTo 0x7F 0x00)
+polledDoneOf s Passed = putOf s BanksAt (pointTo (addressOf s) 0x7F 0x00)
 polledDoneOf s Failed = endOf s (Halted Program)
 
 unfoldable pub statusDoneOf : Session → ℕ → Handed
@@ -91,7 +91,7 @@ statusDoneOf s w = polledDoneOf s (polledOf w)
 -- ---- steps 5 and 6: for N from 0, write RESTORE_CFG with one data byte, the identifier; DONE when all N passed
 
 unfoldable pub restoreOf : Session → ConfigNumber → Handed
-restoreOf s N = putOf (withPosition s (atConfig (s .position) N)) Restore (writeOf device (s .settings .restore) (idIn (s .file) (N .0) ∷ []))
+restoreOf s N = putOf (withPosition s (atConfig (s .position) N)) Restore (writeOf (addressOf s) (s .settings .restore) (idIn (s .file) (N .0) ∷ []))
 
 unfoldable pub banksDoneOf : Session → ℕ → Handed
 banksDoneOf s w = cond (banksRight (s .file .configs) w) (restoreOf s (configNumber 0)) (endOf s (Halted Banks))

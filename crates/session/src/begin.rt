@@ -56,10 +56,11 @@ impl Session {
         requires { ⌜ self .sent < 4294967295 ⌝ }
         ensures { λ r. ⌜ r ≡ firstOf self ⌝ }
     {
+        let address = self.settings.address;
         if self.settings.wanted {
-            self.put(Awaited::CaptureAt, guide::point(Bus::CAPTURE))
+            self.put(Awaited::CaptureAt, guide::point(address, Bus::CAPTURE))
         } else {
-            self.put(Awaited::CounterAt, guide::point(Bus::COUNTER))
+            self.put(Awaited::CounterAt, guide::point(address, Bus::COUNTER))
         }
     }
 }

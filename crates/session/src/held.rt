@@ -7,7 +7,7 @@ use summary::Summary;
 ghost use mathlib.Core.Path.{_≡_};
 ghost use Prim.Native.Nat.{_<_};
 ghost use Rattle.session.specs.Terms.{keptOf};
-ghost use Rattle.session.specs.Sound.{knownRule, allowedOf, idsTo, fileSound, heldSound, soundOf};
+ghost use Rattle.session.specs.Sound.{knownRule, isAddress, allowedOf, idsTo, fileSound, heldSound, soundOf};
 
 fn known_rule(rule: u8) -> bool
     ensures { λ r. ⌜ r ≡ knownRule rule ⌝ }
@@ -15,8 +15,21 @@ fn known_rule(rule: u8) -> bool
     if rule == 1 { true } else { rule == 2 }
 }
 
+// Even, 10 to EE hex.
+fn is_address(address: u8) -> bool
+    ensures { λ r. ⌜ r ≡ isAddress address ⌝ }
+{
+    if address < 0x10 {
+        return false;
+    }
+    if 0xEE < address {
+        return false;
+    }
+    address % 2 == 0
+}
+
 impl Settings {
-    // Poll limit 1 to 10,000; RESTORE_CFG is none of the six other commands; house rule 1 or 2.
+    // Poll limit 1 to 10,000; RESTORE_CFG is none of the six other commands; house rule 1 or 2; a write address.
     pub fn allowed(self) -> bool
         ensures { λ r. ⌜ r ≡ allowedOf self ⌝ }
     {
@@ -27,9 +40,12 @@ impl Settings {
             return false;
         }
         if Bus::reserved(self.restore) {
-            false
+            return false;
+        }
+        if known_rule(self.rule) {
+            is_address(self.address)
         } else {
-            known_rule(self.rule)
+            false
         }
     }
 

@@ -24,6 +24,8 @@ pub struct Settings {
     pub restore: u8,
     // The house rule, 1 or 2: how many of the device's places are kept free for field service (document 02, R-13).
     pub rule: u8,
+    // The device's write address: even, 10 to EE hex. It is read by one more (document 02, R-2).
+    pub address: u8,
 }
 
 // The request whose reply is awaited, in the order of the six steps.

@@ -26,9 +26,10 @@ impl Session {
         let mut p = self.position;
         p.line = number;
         p.place = next;
+        let address = self.settings.address;
         let mut s = self.moved(p);
         s.burned = burned;
-        s.put(Awaited::LineOut, guide::line_request(table, line))
+        s.put(Awaited::LineOut, guide::line_request(address, table, line))
     }
 
     // Line n and no other is the burn. A burn mark that is set stays set.
@@ -76,7 +77,8 @@ impl Session {
         if line < self.file.lines {
             self.put_line(text, LineNumber(line + 1))
         } else {
-            self.put(Awaited::StatusAt, guide::point(Bus::STATUS))
+            let address = self.settings.address;
+            self.put(Awaited::StatusAt, guide::point(address, Bus::STATUS))
         }
     }
 }

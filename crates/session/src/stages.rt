@@ -23,8 +23,8 @@ impl Session {
     {
         let mut p = self.position;
         p.read.counter = word;
-        self.moved(p)
-            .put(Awaited::IdentityRead, guide::read(Bus::IDENTITY, 6))
+        let address = self.settings.address;
+        self.moved(p).put(Awaited::IdentityRead, Bus::read(address, Bus::IDENTITY, 6))
     }
 
     // Kept for 24.
@@ -34,7 +34,9 @@ impl Session {
     {
         let mut p = self.position;
         p.read.identity = word;
-        self.moved(p).put(Awaited::FlagAt, guide::point(Bus::FLAG))
+        let address = self.settings.address;
+        self.moved(p)
+            .put(Awaited::FlagAt, guide::point(address, Bus::FLAG))
     }
 
     // Kept for 25 and 27.
@@ -44,8 +46,8 @@ impl Session {
     {
         let mut p = self.position;
         p.read.flag = word;
-        self.moved(p)
-            .put(Awaited::RevisionRead, guide::read(Bus::REVISION, 6))
+        let address = self.settings.address;
+        self.moved(p).put(Awaited::RevisionRead, Bus::read(address, Bus::REVISION, 6))
     }
 
     // The words that step 2 read, with the last of them.
@@ -73,8 +75,9 @@ impl Session {
         if polls < self.settings.limit {
             let mut p = self.position;
             p.polls = polls;
+            let address = self.settings.address;
             self.moved(p)
-                .put(Awaited::StatusRead, guide::read(Bus::DATA, 5))
+                .put(Awaited::StatusRead, Bus::read(address, Bus::DATA, 5))
         } else {
             self.end(Verdict::Halted(Reason::Program))
         }
@@ -85,10 +88,11 @@ impl Session {
         requires { ⌜ Ready self ⌝ }
         ensures { λ r. ⌜ r ≡ statusDoneOf self word ⌝ }
     {
+        let address = self.settings.address;
         let polled = Polled::of(word);
         match polled {
             Polled::Busy => self.poll_again(),
-            Polled::Passed => self.put(Awaited::BanksAt, guide::point(Bus::BANKS)),
+            Polled::Passed => self.put(Awaited::BanksAt, guide::point(address, Bus::BANKS)),
             Polled::Failed => self.end(Verdict::Halted(Reason::Program)),
         }
     }
@@ -103,9 +107,10 @@ impl Session {
         let i = number.0 as usize;
         let ids = self.file.ids;
         let id = ids[i];
+        let settings = self.settings;
         self.moved(p).put(
             Awaited::Restore,
-            guide::write(self.settings.restore, 1, id.0, 0, 0, 0),
+            Bus::write(settings.address, settings.restore, 1, id.0, 0, 0, 0),
         )
     }
 

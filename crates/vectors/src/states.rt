@@ -8,6 +8,11 @@ use libc::STDIN_FILENO;
 use session::Session;
 use session::Settings;
 
+// The device's addresses, to write and to read by.
+const DEVICE: u8 = 0xC0;
+
+const DEVICE_READ: u8 = 0xC1;
+
 // Of a write: done, with no bytes.
 fn acknowledge(words: &[u8], s: Session, file: &[u8]) {
     say_handed(words, s.reply(file, 1, b""));
@@ -32,6 +37,21 @@ fn held_settings(begun: Session, file: &[u8]) {
     acknowledge(b"rule 2", s, file);
     s.settings.rule = 3;
     acknowledge(b"rule 3", s, file);
+}
+
+// Even, 10 to EE hex. The next request goes to the address that is held.
+fn held_address(begun: Session, file: &[u8]) {
+    let mut s = begun;
+    s.settings.address = 0x0E;
+    acknowledge(b"address 0E", s, file);
+    s.settings.address = 0x10;
+    acknowledge(b"address 10", s, file);
+    s.settings.address = 0xC1;
+    acknowledge(b"address C1", s, file);
+    s.settings.address = 0xEE;
+    acknowledge(b"address EE", s, file);
+    s.settings.address = 0xF0;
+    acknowledge(b"address F0", s, file);
 }
 
 // With k = 0 and 9 stands the n that is right for it. No configuration in hand is under k = 0, so that two reasons hold there too.
@@ -130,7 +150,7 @@ fn refused(settings: Settings, file: &[u8]) {
 
 // Step 2 up to the read of the revision, of a new device that fits the file.
 fn revision_awaited(begun: Session, file: &[u8]) -> Session {
-    let flag = pec::of(&[Bus::WRITE, Bus::DATA, Bus::READ, 0, 0, 0, 0]);
+    let flag = pec::of(&[DEVICE, Bus::DATA, DEVICE_READ, 0, 0, 0, 0]);
     let mut handed = begun.reply(file, 1, b"");
     let mut s = handed.session;
     handed = s.reply(file, 1, &[0x1C, 0, 0, 0, 0x6A]);
@@ -145,7 +165,7 @@ fn revision_awaited(begun: Session, file: &[u8]) -> Session {
 
 // The reply to the read of the revision, whose high byte is given.
 fn tell_revision(words: &[u8], s: Session, text: &[u8], high: u8) -> Session {
-    let last = pec::of(&[Bus::WRITE, Bus::REVISION, Bus::READ, 4, 0, 0, 0, high]);
+    let last = pec::of(&[DEVICE, Bus::REVISION, DEVICE_READ, 4, 0, 0, 0, high]);
     let handed = s.reply(text, 1, &[4, 0, 0, 0, high, last]);
     say_handed(words, handed);
     handed.session
@@ -211,11 +231,26 @@ fn line_n_due(out: Session) {
     let burn = with_line(s, b"0005C0E70800DA\n");
     acknowledge(b"line 738 due, another write line there", s, &other);
     acknowledge(b"line 738 due, the burn there", s, &burn);
+    line_n_elsewhere(s, &burn);
+}
+
+// The burn goes out with the address in use and its own PEC, and the file's line still says C0.
+fn line_n_elsewhere(due: Session, burn: &[u8]) {
+    let mut s = due;
+    s.settings.address = 0x12;
+    let moved = with_line(s, b"000512E708003B\n");
+    acknowledge(b"address 12, line 738 due, the burn there", s, burn);
+    acknowledge(
+        b"address 12, line 738 due, a burn that says 12 there",
+        s,
+        &moved,
+    );
 }
 
 fn before_reply(begun: Session, file: &[u8]) {
     acknowledge(b"acknowledged", begun, file);
     held_settings(begun, file);
+    held_address(begun, file);
     held_file(begun, file);
     held_position(begun, file);
     held_identifier(begun, file);
@@ -243,6 +278,7 @@ pub(crate) fn run() {
         limit: 10,
         restore: 0xF2,
         rule: 1,
+        address: DEVICE,
     };
     let begun = settings.begin(file);
     say_handed(b"begun", begun);

@@ -17,7 +17,7 @@ returns-2 c = search tests
 
 returns-3 : tie.Need-returns-3
 unfolding readReply
-returns-3 c = simp (ne-eqb _ _ (c .before .before .before .if1 .left), ne-eqb _ _ (c .before .before .if2 .left)) (c .word .ensures ∙ ap (wordReply _) (c .before .value .ensures))
+returns-3 c = simp (ne-eqb _ _ (c .before .before .before .if1 .left), ne-eqb _ _ (c .before .before .if2 .left)) (c .word .ensures ∙ ap (wordReply _ _) (c .before .value .ensures))
 
 pub read-spec : {M : Type 1} → statement M
 read-spec =

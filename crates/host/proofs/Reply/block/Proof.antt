@@ -7,8 +7,17 @@ use Rattle.host.proofs.Reply.block.Tie as tie
 
 returns : tie.Need-returns
 unfolding blockReply wordBytes
-returns c = rw (c .of .ensures)
+returns c = rw (c .of .ensures, c .before .before .read-address .ensures)
 
 pub block-spec : {M : Type 1} → statement M
 block-spec =
-    tie.close (tie.spec (λ c. search needs) (λ c. search needs) (λ c. search needs) (λ c. search needs) (λ c. search needs) (λ c κs. search needs) returns)
+    tie.close
+    (tie.spec
+    (λ c. search needs)
+    (λ c. search needs)
+    (λ c. search needs)
+    (λ c. search needs)
+    (λ c κs. search needs)
+    (λ c. search needs)
+    (λ c κs. search needs)
+    returns)

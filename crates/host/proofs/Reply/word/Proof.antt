@@ -7,7 +7,17 @@ use Rattle.host.proofs.Reply.word.Tie as tie
 
 returns : tie.Need-returns
 unfolding wordReply wordBytes
-returns c = rw (c .of .ensures)
+returns c = rw (c .of .ensures, c .before .before .read-address .ensures)
 
 pub word-spec : {M : Type 1} → statement M
-word-spec = tie.close (tie.spec (λ c. search needs) (λ c. search needs) (λ c. search needs) (λ c. search needs) (λ c. search needs) (λ c κs. search needs) returns)
+word-spec =
+    tie.close
+    (tie.spec
+    (λ c. search needs)
+    (λ c. search needs)
+    (λ c. search needs)
+    (λ c. search needs)
+    (λ c κs. search needs)
+    (λ c. search needs)
+    (λ c κs. search needs)
+    returns)

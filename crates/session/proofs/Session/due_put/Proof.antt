@@ -1,5 +1,6 @@
 -- By what each call ensures; the burn mark is set between them, and the lent table keeps its rule. Assumes nothing.
 use mathlib.Core.Path.{_∙_}
+use Prim.Native.Nat.{_<_}
 use Rattle.guide.proofs.LentTable.{request-right, IsBytes}
 use Rattle.session.specs.Moves.{withPosition, withBurned}
 use Rattle.session.specs.Lines.{duePutOf, atLine}
@@ -18,11 +19,15 @@ bytes c =
     let d = g .1 .1 in
     record { command = g .0 .1; d0 = d .0 .1; d1 = d .1 .0 .1; d2 = d .1 .1 .0 .1; d3 = d .1 .1 .1 .0 .1 }
 
+-- the address in use, of the settings that owning the session tells
+address : (c : tie.Start) → c .args .self .settings .address < 256
+address c = c .good .0 .1 .1 .0 .1 .1 .1 .1 .1 .1 .0 .1
+
 returns : tie.Need-returns
 unfolding duePutOf atLine withBurned
 returns c =
     let start = c .before .before .before .before in
-    let sent = c .before .line-request .ensures ∙ request-right (start .pre .0) (start .args .line) (bytes start) in
+    let sent = c .before .line-request .ensures ∙ request-right _ (address start) (start .pre .0) (start .args .line) (bytes start) in
     rw (c .put .ensures, sent, c .before .before .moved .ensures)
 
 pub due-put-spec : {M : Type 1} → statement M

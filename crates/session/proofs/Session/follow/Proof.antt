@@ -2,7 +2,6 @@
 use mathlib.Core.Path.{_∙_, ap}
 use Rattle.session.specs.Moves.{putOf}
 use Rattle.bus.specs.Bus.{writeOf, wordBytes}
-use Rattle.guide.specs.Requests.{device}
 use Rattle.session.specs.Reply.{followOf}
 use borrow.Author.Needs.{needs}
 use Rattle.session.proofs.Session.follow.Statement.{statement}
@@ -17,7 +16,7 @@ unfolding followOf
 returns-2 c =
     rw (c .before .before .before .enum-told2 .given .1)
     (c .put2 .ensures
-    ∙ ap (putOf _ _) (c .before .write-back .ensures ∙ ap (λ w. writeOf device 0xC5 (wordBytes w)) (c .before .before .cleared .ensures)))
+    ∙ ap (putOf _ _) (c .before .write-back .ensures ∙ ap (λ w. writeOf (c .before .before .before .before .before .before .args .self .settings .address) 0xC5 (wordBytes w)) (c .before .before .cleared .ensures)))
 
 returns-3 : tie.Need-returns-3
 unfolding followOf

@@ -4,7 +4,7 @@ use mathlib.Core.Bool.{not}
 use borrow.Author.Tests.{le-leb, lt-leb}
 use Rattle.promise.proofs.Basics.{via}
 use Rattle.session.specs.Sound.{all, settingTests, allowedOf}
-use Rattle.session.proofs.Tests.{all-last1, all-next}
+use Rattle.session.proofs.Tests.{all-not, all-last1, all-next}
 use borrow.Author.Needs.{needs}
 use Rattle.session.proofs.Settings.allowed.Statement.{statement}
 use Rattle.session.proofs.Settings.allowed.Tie as tie
@@ -27,10 +27,28 @@ returns-4 : tie.Need-returns-4
 unfolding settingTests allowedOf
 returns-4 c =
     let b = c .before .before .before in
-    c .known-rule .ensures
-    ∙ all-next _ _ _ (le-leb 1 _ (b .before .before .if1 .left))
-    (all-next _ _ _ (le-leb _ 10000 (b .if2 .left))
-    (all-next _ _ _ (ap not (via (c .before .before .reserved .ensures) (c .before .if3 .left))) (all-last1 _)))
+    let limits = b .before .before in
+    c .is-address .ensures
+    ∙ all-next _ _ _ (le-leb 1 _ (limits .before .before .if1 .left))
+    (all-next _ _ _ (le-leb _ 10000 (limits .if2 .left))
+    (all-next _ _ _ (ap not (via (b .before .reserved .ensures) (b .if3 .left)))
+    (all-next _ _ _ (via (c .before .before .known-rule .ensures) (c .before .if4 .taken)) (all-last1 _))))
+
+returns-5 : tie.Need-returns-5
+unfolding settingTests allowedOf
+returns-5 c =
+    all-not (settingTests (c .before .before .before .before .before .before .before .before .args .self)) 3
+    (via (c .before .known-rule .ensures) (c .if4 .left))
 
 pub allowed-spec : {M : Type 1} → statement M
-allowed-spec = tie.close (tie.spec returns returns-2 (λ c κs. search needs) (λ c κs. search needs) returns-3 returns-4)
+allowed-spec =
+    tie.close
+    (tie.spec
+    returns
+    returns-2
+    (λ c κs. search needs)
+    returns-3
+    (λ c κs. search needs)
+    (λ c κs. search needs)
+    returns-4
+    returns-5)
