@@ -1,12 +1,10 @@
-//! "The session": one request and its reply.
+//! "The session": one request and its reply, at the address in use (request R-2).
 
 use std::fmt::Write as _;
 
-use crate::lines::DEVICE_WRITE;
 use crate::pec::pec;
 use crate::verdict::{end_if, Stop, NACK, SHAPE, WRONG_PEC};
 
-const DEVICE_READ: u8 = 0xC1;
 const REGISTER_ADDRESS: u8 = 0xC7;
 pub const REGISTER_DATA: u8 = 0xC5;
 pub const READ_IDENTITY: u8 = 0xAD;
@@ -17,8 +15,9 @@ pub struct Reply<'a> {
     pub bytes: &'a [u8],
 }
 
-/// The host's side: what was put out so far, and the replies still to come.
+/// The host's side: the address in use, what was put out so far, and the replies still to come.
 pub struct Host<'a> {
+    address: u8,
     replies: std::slice::Iter<'a, Reply<'a>>,
     pub log: String,
     pub count: u32,
@@ -26,13 +25,20 @@ pub struct Host<'a> {
 }
 
 impl<'a> Host<'a> {
-    pub fn new(replies: &'a [Reply<'a>]) -> Self {
+    /// The address is an allowed one, so that one more is a byte.
+    pub fn new(address: u8, replies: &'a [Reply<'a>]) -> Self {
         Host {
+            address,
             replies: replies.iter(),
             log: String::new(),
             count: 0,
             burn: false,
         }
+    }
+
+    /// "the read address is one more" than the write address.
+    fn read_address(&self) -> u8 {
+        self.address + 1
     }
 
     fn put_out(&mut self, verb: &str, bytes: &[u8]) {
@@ -54,17 +60,13 @@ impl<'a> Host<'a> {
         Ok(reply.bytes)
     }
 
-    /// Puts out a write whose PEC is given. "a write's reply has none" (no bytes).
-    pub fn write_with(&mut self, command: u8, data: &[u8], pec: u8) -> Result<(), Stop> {
-        let request = [&[DEVICE_WRITE, command], data, &[pec]].concat();
+    /// Puts out a write. "A write's PEC covers C0, command, data", C0 being the address in use.
+    /// "a write's reply has none" (no bytes).
+    pub fn write(&mut self, command: u8, data: &[u8]) -> Result<(), Stop> {
+        let mut request = [&[self.address, command], data].concat();
+        request.push(pec(&request));
         self.put_out("write", &request);
         self.reply_of(0).map(|_| ())
-    }
-
-    /// Puts out a write. "A write's PEC covers C0, command, data."
-    pub fn write(&mut self, command: u8, data: &[u8]) -> Result<(), Stop> {
-        let pec = pec(&[&[DEVICE_WRITE, command], data].concat());
-        self.write_with(command, data, pec)
     }
 
     pub fn select(&mut self, register: [u8; 2]) -> Result<(), Stop> {
@@ -72,14 +74,15 @@ impl<'a> Host<'a> {
     }
 
     fn put_out_read(&mut self, command: u8, byte_count: u8) {
-        self.put_out("read", &[DEVICE_WRITE, command, DEVICE_READ, byte_count]);
+        let request = [self.address, command, self.read_address(), byte_count];
+        self.put_out("read", &request);
     }
 
     /// Reads C5: four bytes and PEC.
     pub fn read_register(&mut self) -> Result<&'a [u8], Stop> {
         self.put_out_read(REGISTER_DATA, 5);
         let bytes = self.reply_of(5)?;
-        check_reply_pec(REGISTER_DATA, bytes)?;
+        self.check_reply_pec(REGISTER_DATA, bytes)?;
         Ok(&bytes[..4])
     }
 
@@ -88,14 +91,15 @@ impl<'a> Host<'a> {
         self.put_out_read(command, 6);
         let bytes = self.reply_of(6)?;
         end_if(bytes[0] != 4, SHAPE)?;
-        check_reply_pec(command, bytes)?;
+        self.check_reply_pec(command, bytes)?;
         Ok(&bytes[1..5])
     }
-}
 
-/// "A read's covers C0, command, C1, then the bytes read before the PEC."
-fn check_reply_pec(command: u8, bytes: &[u8]) -> Result<(), Stop> {
-    let (before, last) = bytes.split_at(bytes.len() - 1);
-    let expected = pec(&[&[DEVICE_WRITE, command, DEVICE_READ], before].concat());
-    end_if(last != [expected], WRONG_PEC)
+    /// "A read's covers C0, command, C1, then the bytes read before the PEC", C0 and C1 being the
+    /// addresses in use.
+    fn check_reply_pec(&self, command: u8, bytes: &[u8]) -> Result<(), Stop> {
+        let (before, last) = bytes.split_at(bytes.len() - 1);
+        let expected = pec(&[&[self.address, command, self.read_address()], before].concat());
+        end_if(last != [expected], WRONG_PEC)
+    }
 }

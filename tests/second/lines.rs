@@ -5,18 +5,19 @@ use crate::pec::pec;
 use crate::refusal::{Refusal, CHAR, CRC, FORM, LENGTH, PAIRS};
 use crate::table::first_broken_field;
 
-pub const DEVICE_WRITE: u8 = 0xC0;
+/// What every line says, whatever address is in use: "The file still says C0 and its CRC is still
+/// judged so" (R-2).
+pub const LINE_ADDRESS: u8 = 0xC0;
 
 /// The place of the length byte's first digit, behind the two of the tag.
 const LENGTH_PLACE: usize = 3;
 
-/// A good line, without its length byte.
+/// A good line, without its length byte and its CRC.
 pub struct Line {
     pub tag: u8,
     pub address: u8,
     pub command: u8,
     pub data: Vec<u8>,
-    pub crc: u8,
 }
 
 impl Line {
@@ -78,7 +79,6 @@ pub fn read_line(text: &[u8], line: usize) -> Result<Line, Refusal> {
         address: bytes[2],
         command: bytes[3],
         data: bytes[4..last].to_vec(),
-        crc: bytes[last],
     };
     match first_broken_field(&read, line) {
         Some(place) => Err(refuse(FORM, place)),

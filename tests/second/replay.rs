@@ -7,7 +7,7 @@ use crate::session::{begin, run, Settings};
 use crate::verdict::{Stop, DONE};
 
 /// How many bytes the settings take, and the file's length behind them.
-const SETTINGS_BYTES: usize = 5;
+const SETTINGS_BYTES: usize = 6;
 const LENGTH_BYTES: usize = 4;
 const ROOM_FOR_FILE: usize = 65_600;
 const ROOM_FOR_REPLIES: usize = 200_000;
@@ -53,6 +53,7 @@ fn settings_of(bytes: &[u8]) -> Settings {
         poll_limit: u16::from_le_bytes([bytes[1], bytes[2]]),
         restore_cfg: bytes[3],
         rule: bytes[4],
+        address: bytes[5],
     }
 }
 
@@ -85,7 +86,7 @@ fn replay_parsed(dry_run: &DryRun) -> String {
 }
 
 fn replay_accepted(dry_run: &DryRun, image: &Image) -> String {
-    let mut host = Host::new(&dry_run.replies);
+    let mut host = Host::new(dry_run.settings.address, &dry_run.replies);
     let how_it_stands = match run(&mut host, &dry_run.settings, image) {
         Ok(()) => verdict_line(DONE, 0, 0, 0),
         Err(Stop::Verdict { number, config }) => verdict_line(number, config, 0, 0),

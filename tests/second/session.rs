@@ -17,15 +17,20 @@ pub struct Settings {
     pub restore_cfg: u8,
     /// The house rule (request R-13).
     pub rule: u8,
+    /// The write address (request R-2).
+    pub address: u8,
 }
 
 impl Settings {
-    /// "a rule other than 1 or 2 is 14 SETTING" (R-13); the others are the page's.
+    /// "a rule other than 1 or 2 is 14 SETTING" (R-13), and so is an address that is not "even, 10
+    /// to EE hex" (R-2); the others are the page's.
     fn allowed(&self) -> bool {
         let reserved = [0xC5, 0xC6, 0xC7, 0xE7, 0xAD, 0xAE];
         (1..=10_000).contains(&self.poll_limit)
             && !reserved.contains(&self.restore_cfg)
             && [1, 2].contains(&self.rule)
+            && (0x10..=0xEE).contains(&self.address)
+            && self.address % 2 == 0
     }
 }
 
@@ -100,14 +105,15 @@ fn kind_wanted(flag: u32, counter: u32) -> Option<Kind> {
     }
 }
 
-/// "The write lines 5 to n, as they stand; the PEC sent is the line's last byte."
+/// "The write lines 5 to n, as they stand"; elsewhere than at C0 this reads "with the address in use
+/// and its own PEC" (R-2). At C0 that PEC is the line's last byte, which 5 CRC has judged.
 fn step_3(host: &mut Host, image: &Image) -> Result<(), Stop> {
     for number in 5..=image.lines.len() {
         let line = image.line(number);
         if line.is_burn() {
             host.burn = true;
         }
-        host.write_with(line.command, &line.data, line.crc)?;
+        host.write(line.command, &line.data)?;
     }
     Ok(())
 }

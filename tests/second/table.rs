@@ -2,7 +2,7 @@
 
 use std::ops::RangeInclusive;
 
-use crate::lines::{Line, DEVICE_WRITE};
+use crate::lines::{Line, LINE_ADDRESS};
 
 struct Row {
     lines: RangeInclusive<usize>,
@@ -21,7 +21,7 @@ const fn row(
     Row {
         lines,
         tag,
-        address: DEVICE_WRITE,
+        address: LINE_ADDRESS,
         commands,
         data_bytes,
     }
