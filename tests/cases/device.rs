@@ -2,15 +2,18 @@
 //!
 //! It judges nothing. A case spoils what the device holds, or one of its replies.
 
+use crate::address::read_address;
 use crate::draft::{Draft, Kind};
 use crate::line::pec;
 use crate::random::Rng;
 
 pub const PRODUCTION_FLAG: u32 = 0xFFFE_0001;
 
-/// How many bytes of a dry run's input the settings take, and which of them is the house rule.
-pub const SETTINGS_BYTES: usize = 5;
+/// How many bytes of a dry run's input the settings take, and which of them are the house rule and
+/// the address.
+pub const SETTINGS_BYTES: usize = 6;
 pub const RULE_PLACE: usize = 4;
+pub const ADDRESS_PLACE: usize = 5;
 /// The settings and the file's length, which the file stands behind.
 pub const HEADER_BYTES: usize = SETTINGS_BYTES + 4;
 
@@ -21,6 +24,7 @@ pub struct Settings {
     pub poll_limit: u16,
     pub restore_cfg: u8,
     pub rule: u8,
+    pub address: u8,
 }
 
 impl Settings {
@@ -32,6 +36,7 @@ impl Settings {
             limit_high,
             self.restore_cfg,
             self.rule,
+            self.address,
         ]
     }
 }
@@ -57,19 +62,24 @@ impl Reply {
         Reply { kind: 1, bytes }
     }
 
-    /// A right reply to a read of C5.
-    pub fn register(value: u32) -> Reply {
-        Reply::sealed(0xC5, value.to_le_bytes().to_vec())
+    /// A right reply to a read of C5 at an address.
+    pub fn register(address: u8, value: u32) -> Reply {
+        Reply::sealed(address, 0xC5, value.to_le_bytes().to_vec())
     }
 
-    /// A right reply to a read of AD or AE.
-    pub fn block(command: u8, value: u32) -> Reply {
-        Reply::sealed(command, [&[4][..], &value.to_le_bytes()].concat())
+    /// A right reply to a read of AD or AE at an address.
+    pub fn block(address: u8, command: u8, value: u32) -> Reply {
+        Reply::sealed(address, command, [&[4][..], &value.to_le_bytes()].concat())
     }
 
-    /// Bytes with the right PEC behind them.
-    pub fn sealed(command: u8, mut bytes: Vec<u8>) -> Reply {
-        bytes.push(pec(&[&[0xC0, command, 0xC1], &bytes[..]].concat()));
+    /// Bytes with the right PEC for a read at an address behind them.
+    pub fn sealed(address: u8, command: u8, bytes: Vec<u8>) -> Reply {
+        Reply::sealed_over(&[address, command, read_address(address)], bytes)
+    }
+
+    /// Bytes with a PEC behind them that covers others before them.
+    pub fn sealed_over(before: &[u8], mut bytes: Vec<u8>) -> Reply {
+        bytes.push(pec(&[before, &bytes[..]].concat()));
         Reply::done(bytes)
     }
 
@@ -122,9 +132,13 @@ impl Device {
         }
     }
 
-    /// The walk along steps 1 to 6, to the end, whatever would be found on the way.
+    /// The walk along steps 1 to 6, to the end, whatever would be found on the way. The replies are
+    /// those of a device at the settings' address.
     pub fn walk(&self, draft: &Draft, settings: Settings) -> Vec<Step> {
-        let mut walk = Walk(Vec::new());
+        let mut walk = Walk {
+            address: settings.address,
+            steps: Vec::new(),
+        };
         if settings.step_1 != 0 {
             walk.write("setup-select");
             walk.register("setup", self.setup);
@@ -151,15 +165,18 @@ impl Device {
             walk.write(&format!("crc-select-{config}"));
             walk.register(&format!("crc-{config}"), crc);
         }
-        walk.0
+        walk.steps
     }
 }
 
-struct Walk(Vec<Step>);
+struct Walk {
+    address: u8,
+    steps: Vec<Step>,
+}
 
 impl Walk {
     fn write(&mut self, name: &str) {
-        self.0.push(Step {
+        self.steps.push(Step {
             name: name.into(),
             read: None,
             reply: Reply::done(Vec::new()),
@@ -167,8 +184,8 @@ impl Walk {
     }
 
     fn register(&mut self, name: &str, value: u32) {
-        let reply = Reply::register(value);
-        self.0.push(Step {
+        let reply = Reply::register(self.address, value);
+        self.steps.push(Step {
             name: name.into(),
             read: Some(0xC5),
             reply,
@@ -176,8 +193,8 @@ impl Walk {
     }
 
     fn block(&mut self, name: &str, command: u8, value: u32) {
-        let reply = Reply::block(command, value);
-        self.0.push(Step {
+        let reply = Reply::block(self.address, command, value);
+        self.steps.push(Step {
             name: name.into(),
             read: Some(command),
             reply,

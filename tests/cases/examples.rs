@@ -6,7 +6,7 @@ use std::path::Path;
 
 use crate::device::{flag_of, input, replies_of, right_banks, Device, Settings};
 use crate::draft::{identity_of, Draft, Kind};
-use crate::line::{burn, header, write};
+use crate::line::{burn, header, write, ADDRESS};
 use crate::random::Rng;
 
 const VERSION: &[u8] = b"5.4.233";
@@ -53,7 +53,7 @@ fn example(kind: Kind, part: u8, revision: u8, identifiers: &[u8]) -> Draft {
 }
 
 /// Writes a dry run for an accepted file: step 1 wanted, poll limit 10, RESTORE_CFG F2, house rule
-/// 1, two polls with bit 0 clear, and DONE.
+/// 1, address C0, two polls with bit 0 clear, and DONE.
 pub fn write_session(file: &Path, out: &Path) -> io::Result<()> {
     let text = fs::read(file)?;
     let draft = draft_of(&text)
@@ -63,6 +63,7 @@ pub fn write_session(file: &Path, out: &Path) -> io::Result<()> {
         poll_limit: 10,
         restore_cfg: 0xF2,
         rule: 1,
+        address: ADDRESS,
     };
     let device = Device {
         setup: 0x0000_0124,

@@ -3,6 +3,7 @@
 //!
 //! They share nothing with either side: they have their own PEC and their own regulator.
 
+mod address;
 mod device;
 pub mod draft;
 mod ending;
@@ -16,7 +17,8 @@ mod sessions;
 mod spoil;
 pub mod text;
 
-pub use device::{HEADER_BYTES, RULE_PLACE, SETTINGS_BYTES};
+pub use address::random_address;
+pub use device::{ADDRESS_PLACE, HEADER_BYTES, RULE_PLACE, SETTINGS_BYTES};
 pub use ending::{at, At, Ending, Made, WHOLE};
 pub use files::files;
 pub use list::Case;

@@ -4,6 +4,7 @@ use crate::random::Rng;
 
 pub const HEADER: u8 = 0x49;
 pub const WRITE: u8 = 0x00;
+/// The address that every line says. A session may use another (document 02, R-2).
 pub const ADDRESS: u8 = 0xC0;
 
 /// The burn's command and data.

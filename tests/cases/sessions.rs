@@ -5,6 +5,7 @@
 //! `waiting`, `cutshort`, `toolong`, or `open` where the answer is not known from the making of the
 //! case.
 
+mod addresses;
 mod done;
 mod going_on;
 mod inputs;
@@ -16,7 +17,7 @@ mod written;
 
 use crate::device::{input, replies_of, Device, Reply, Settings, Step, RULES};
 use crate::draft::{Draft, Kind};
-use crate::line::header;
+use crate::line::{header, ADDRESS};
 use crate::list::{Case, List};
 use crate::random::Rng;
 use crate::text::{render, Style};
@@ -44,6 +45,7 @@ pub fn sessions(seed: u64) -> Vec<Case> {
     sessions.past_the_verdict();
     sessions.input_cases();
     sessions.random_sessions();
+    sessions.addresses();
     sessions.list.cases()
 }
 
@@ -62,6 +64,12 @@ impl Session {
         self
     }
 
+    /// With a device at this address (document 02, R-2).
+    fn at(mut self, address: u8) -> Session {
+        self.settings.address = address;
+        self
+    }
+
     pub fn steps(&self) -> Vec<Step> {
         self.device.walk(&self.draft, self.settings)
     }
@@ -72,13 +80,13 @@ impl Session {
 }
 
 impl Sessions {
-    /// A session under either house rule.
+    /// A session under either house rule, at C0 as on the page.
     pub fn session(&mut self, kind: Kind, k: usize) -> Session {
         let rule = self.rng.pick(&RULES);
         self.session_under(rule, kind, k)
     }
 
-    /// A session under this house rule (document 02, R-13).
+    /// A session under this house rule (document 02, R-13), at C0.
     fn session_under(&mut self, rule: u8, kind: Kind, k: usize) -> Session {
         let mut draft = Draft::random(&mut self.rng, kind, k);
         draft.set(3, header(0x01, &self.rng.bytes(3)));
@@ -94,6 +102,7 @@ impl Sessions {
                 poll_limit,
                 restore_cfg,
                 rule,
+                address: ADDRESS,
             },
             device,
         }

@@ -1,8 +1,10 @@
 //! Inputs of dry runs that are cut short or too long, or just not.
 
 use super::Sessions;
-use crate::device::{input, reply_bytes, Reply, Settings, HEADER_BYTES, SETTINGS_BYTES};
+use crate::device::{input, reply_bytes, Reply, Settings};
+use crate::device::{ADDRESS_PLACE, HEADER_BYTES, SETTINGS_BYTES};
 use crate::draft::Draft;
+use crate::line::ADDRESS;
 
 const ROOM_FOR_FILE: usize = 65_600;
 const ROOM_FOR_REPLIES: usize = 200_000;
@@ -11,12 +13,21 @@ const FINE: Settings = Settings {
     poll_limit: 10,
     restore_cfg: 0xF2,
     rule: 1,
+    address: ADDRESS,
 };
 const BAD_LIMIT: Settings = Settings {
     poll_limit: 0,
     ..FINE
 };
 const BAD_RULE: Settings = Settings { rule: 3, ..FINE };
+const ELSEWHERE: Settings = Settings {
+    address: 0x20,
+    ..FINE
+};
+const BAD_ADDRESS: Settings = Settings {
+    address: 0xC1,
+    ..FINE
+};
 
 impl Sessions {
     pub(super) fn input_cases(&mut self) {
@@ -34,7 +45,8 @@ impl Sessions {
     }
 
     fn cut_headers_and_files(&mut self) {
-        for count in 0..HEADER_BYTES {
+        // `inputs_elsewhere` cuts right before the address.
+        for count in (0..HEADER_BYTES).filter(|&count| count != ADDRESS_PLACE) {
             let (_, mut bytes) = self.fresh_input();
             bytes.truncate(count);
             self.put_bytes(&format!("cutshort-header-{count}"), &bytes);
@@ -77,11 +89,6 @@ impl Sessions {
     }
 
     fn long_files(&mut self) {
-        let header = |settings: Settings, length: u32| {
-            let mut bytes = input(settings, b"", &[]);
-            bytes[SETTINGS_BYTES..HEADER_BYTES].copy_from_slice(&length.to_le_bytes());
-            bytes
-        };
         for (number, settings) in [(1, FINE), (14, BAD_LIMIT), (14, BAD_RULE)] {
             let room = ROOM_FOR_FILE as u32;
             for length in [room + 1, 70_000, 0x0100_0000, 0xFFFF_FFFF] {
@@ -125,6 +132,34 @@ impl Sessions {
             self.put_bytes("toolong-replies-200001", &bytes);
         }
     }
+
+    /// With another address than C0, and with one that is not allowed: the input is taken apart
+    /// before the address is looked at.
+    pub(super) fn inputs_elsewhere(&mut self) {
+        for settings in [ELSEWHERE, BAD_ADDRESS] {
+            let (draft, _) = self.fresh_input();
+            let file = self.file(&draft);
+            let whole = input(settings, &file, &[]);
+            let at = format!("at-{:02x}", settings.address);
+            for count in 0..HEADER_BYTES {
+                self.put_bytes(&format!("cutshort-header-{count}-{at}"), &whole[..count]);
+            }
+            for count in [HEADER_BYTES, whole.len() - 1] {
+                self.put_bytes(&format!("cutshort-file-{count}-{at}"), &whole[..count]);
+            }
+            let cut_reply = [&whole[..], &[1, 5, 0]].concat();
+            self.put_bytes(&format!("cutshort-reply-{at}"), &cut_reply);
+            let over = header(settings, ROOM_FOR_FILE as u32 + 1);
+            self.put_bytes(&format!("toolong-file-{at}"), &over);
+        }
+    }
+}
+
+/// The settings and a file's length, without a file.
+fn header(settings: Settings, length: u32) -> Vec<u8> {
+    let mut bytes = input(settings, b"", &[]);
+    bytes[SETTINGS_BYTES..].copy_from_slice(&length.to_le_bytes());
+    bytes
 }
 
 /// Replies that take so many bytes in a dry run's input, which are at least two.

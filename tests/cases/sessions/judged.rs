@@ -205,7 +205,7 @@ impl Sessions {
     }
 }
 
-fn spoil_device(session: &mut Session, faults: &[u8]) {
+pub(super) fn spoil_device(session: &mut Session, faults: &[u8]) {
     let has = |fault: u8| faults.contains(&fault);
     let production = session.draft.kind == Kind::Production;
     let least = least_counter(session.settings.rule, session.draft.k);

@@ -1,35 +1,49 @@
 //! Random sessions.
 
 use super::{Session, Sessions};
+use crate::address::random_address;
 use crate::device::{replies_of, right_banks, Step, PRODUCTION_FLAG};
 use crate::draft::{identity_of, PARTS};
+use crate::line::ADDRESS;
 
 impl Sessions {
     pub(super) fn random_sessions(&mut self) {
         for _ in 0..140 {
-            let k = self.rng.pick(&[1, 1, 1, 1, 1, 2, 2, 3]);
-            let kind = self.rng.kind();
-            let mut session = self.session(kind, k);
-            if self.rng.once_in(2) {
-                self.perturb(&mut session);
-            }
-            self.random_polls(&mut session);
-            let mut steps = session.steps();
-            if self.rng.once_in(2) {
-                let place = self.any_place(&steps);
-                let faults = self.faulty_replies(&steps[place]);
-                steps[place].reply = self.rng.pick(&faults).2;
-            }
-            let mut replies = replies_of(&steps);
-            if self.rng.once_in(4) {
-                replies.truncate(self.rng.below(replies.len() + 1));
-            }
-            self.put_replies("open-random", &session, &replies);
+            self.put_random("open-random", ADDRESS);
         }
     }
 
+    /// At random addresses (document 02, R-2).
+    pub(super) fn random_sessions_anywhere(&mut self) {
+        for _ in 0..100 {
+            let address = random_address(&mut self.rng);
+            self.put_random(&format!("open-random-at-{address:02x}"), address);
+        }
+    }
+
+    fn put_random(&mut self, label: &str, address: u8) {
+        let k = self.rng.pick(&[1, 1, 1, 1, 1, 2, 2, 3]);
+        let kind = self.rng.kind();
+        let mut session = self.session(kind, k).at(address);
+        if self.rng.once_in(2) {
+            self.perturb(&mut session);
+        }
+        self.random_polls(&mut session);
+        let mut steps = session.steps();
+        if self.rng.once_in(2) {
+            let place = self.any_place(&steps);
+            let faults = self.faulty_replies(address, &steps[place]);
+            steps[place].reply = self.rng.pick(&faults).2;
+        }
+        let mut replies = replies_of(&steps);
+        if self.rng.once_in(4) {
+            replies.truncate(self.rng.below(replies.len() + 1));
+        }
+        self.put_replies(label, &session, &replies);
+    }
+
     /// Any step, the write lines being not much likelier than the others.
-    fn any_place(&mut self, steps: &[Step]) -> usize {
+    pub(super) fn any_place(&mut self, steps: &[Step]) -> usize {
         loop {
             let place = self.rng.below(steps.len());
             if !steps[place].name.starts_with("line-") || self.rng.once_in(20) {

@@ -4,7 +4,7 @@ use super::{Sessions, RESERVED};
 use crate::device::{input, Settings};
 use crate::draft::{identity_of, Draft};
 use crate::ending::{at, At, WHOLE};
-use crate::line::{burn, header, write};
+use crate::line::{burn, header, write, ADDRESS};
 use crate::numbers::{BURNS, CHAR, COUNT, CRC, DEVICE, FORM, LENGTH, PAIRS};
 use crate::numbers::{REVISION, SAME, SIZE, SPOT};
 use crate::spoil::{broken_from, spoiled, Field, FIELDS};
@@ -12,9 +12,10 @@ use crate::text::{capital, with_line};
 
 const OF_THE_FILE: [u8; 7] = [SIZE, COUNT, REVISION, DEVICE, BURNS, SPOT, SAME];
 
-/// Settings that are not allowed: poll limits, and house rules (document 02, R-13).
+/// Settings that are not allowed: poll limits, house rules (document 02, R-13) and addresses.
 const BAD_LIMITS: [u16; 6] = [0, 10_001, 10_002, 20_000, 0x8000, 65_535];
 const BAD_RULES: [u8; 5] = [0, 3, 4, 128, 255];
+const BAD_ADDRESSES: [u8; 9] = [0x00, 0x0E, 0x0F, 0x11, 0xC1, 0xEF, 0xF0, 0xFE, 0xFF];
 
 impl Sessions {
     /// Each setting that is not allowed by itself, and together with another.
@@ -46,6 +47,23 @@ impl Sessions {
         }
     }
 
+    /// Each address that is not allowed by itself, and together with another setting.
+    pub(super) fn refused_addresses(&mut self) {
+        for address in BAD_ADDRESSES {
+            self.put_refused_settings(|settings| settings.address = address);
+            let (limit, code) = (self.rng.pick(&BAD_LIMITS), self.rng.pick(&RESERVED));
+            let (rule, other) = (self.rng.pick(&BAD_RULES), self.rng.below(3));
+            self.put_refused_settings(|settings| {
+                settings.address = address;
+                match other {
+                    0 => settings.poll_limit = limit,
+                    1 => settings.restore_cfg = code,
+                    _ => settings.rule = rule,
+                }
+            });
+        }
+    }
+
     /// Settings of a session spoiled by a change, with its own file and with a refused one.
     fn put_refused_settings(&mut self, spoil: impl FnOnce(&mut Settings)) {
         let mut session = self.small_session();
@@ -54,9 +72,13 @@ impl Sessions {
             poll_limit,
             restore_cfg,
             rule,
+            address,
             ..
         } = session.settings;
-        let label = format!("want14-limit{poll_limit}-restore{restore_cfg:02x}-rule{rule}");
+        let mut label = format!("want14-limit{poll_limit}-restore{restore_cfg:02x}-rule{rule}");
+        if address != ADDRESS {
+            label += &format!("-address{address:02x}");
+        }
         self.put(&label, &session);
 
         let (number, file) = self.any_refused_file();
@@ -143,7 +165,7 @@ impl Sessions {
     }
 
     /// A draft and the number of a line of it, of the header as often as behind it.
-    fn draft_and_line(&mut self) -> (Draft, usize) {
+    pub(super) fn draft_and_line(&mut self) -> (Draft, usize) {
         let kind = self.rng.kind();
         let draft = Draft::random(&mut self.rng, kind, 2);
         let number = if self.rng.once_in(2) {

@@ -2,7 +2,9 @@
 
 use super::{Session, Sessions};
 use crate::device::{replies_of, Reply, Step};
-use crate::line::pec;
+
+/// A reply that ends a session: the verdict that it gives, its name, and itself.
+pub(super) type Faulty = (u8, &'static str, Reply);
 
 impl Sessions {
     pub(super) fn reply_faults(&mut self) {
@@ -49,7 +51,8 @@ impl Sessions {
             .iter()
             .position(|step| step.name == name)
             .expect("a step's name");
-        for (verdict, fault, reply) in self.faulty_replies(&steps[place]) {
+        let address = session.settings.address;
+        for (verdict, fault, reply) in self.faulty_replies(address, &steps[place]) {
             let mut replies = replies_of(&steps);
             replies[place] = reply;
             self.with_any_tail(&mut replies, place);
@@ -61,10 +64,11 @@ impl Sessions {
         }
     }
 
-    pub(super) fn faulty_replies(&mut self, step: &Step) -> Vec<(u8, &'static str, Reply)> {
+    /// Faulty replies to a request at an address.
+    pub(super) fn faulty_replies(&mut self, address: u8, step: &Step) -> Vec<Faulty> {
         let mut faults = match step.read {
-            None => self.faulty_write_replies(),
-            Some(command) => self.faulty_read_replies(command, &step.reply.bytes),
+            None => self.faulty_write_replies(address),
+            Some(command) => self.faulty_read_replies(address, command, &step.reply.bytes),
         };
         let good = &step.reply.bytes;
         faults.push((
@@ -95,7 +99,7 @@ impl Sessions {
         faults
     }
 
-    fn faulty_write_replies(&mut self) -> Vec<(u8, &'static str, Reply)> {
+    fn faulty_write_replies(&mut self, address: u8) -> Vec<Faulty> {
         let some = self.rng.from_to(1, 8);
         vec![
             (
@@ -107,7 +111,7 @@ impl Sessions {
                 },
             ),
             (21, "one-byte", Reply::done(vec![0])),
-            (21, "five-bytes", Reply::register(1)),
+            (21, "five-bytes", Reply::register(address, 1)),
             (
                 21,
                 "kind-255-with-bytes",
@@ -119,16 +123,16 @@ impl Sessions {
         ]
     }
 
-    fn faulty_read_replies(&mut self, command: u8, good: &[u8]) -> Vec<(u8, &'static str, Reply)> {
+    /// Where the read address is left out, the PEC is a wrong one at C0, though not at every address.
+    fn faulty_read_replies(&mut self, address: u8, command: u8, good: &[u8]) -> Vec<Faulty> {
+        let sealed = |bytes: Vec<u8>| Reply::sealed(address, command, bytes);
         let last = good.len() - 1;
         let (data, changed_bit) = (&good[..last], 1 << self.rng.below(8));
         let mut wrong_pec = good.to_vec();
         wrong_pec[last] ^= changed_bit;
         let mut wrong_data = good.to_vec();
         wrong_data[last - 1] ^= changed_bit;
-        let without_read_address = [&[0xC0, command], data].concat();
-        let mut pec_without = good.to_vec();
-        pec_without[last] = pec(&without_read_address);
+        let pec_without = Reply::sealed_over(&[address, command], data.to_vec());
 
         let mut faults = vec![
             (
@@ -141,26 +145,22 @@ impl Sessions {
             ),
             (21, "no-bytes", Reply::done(Vec::new())),
             (21, "without-pec", Reply::done(data.to_vec())),
-            (
-                21,
-                "short",
-                Reply::sealed(command, data[..last - 1].to_vec()),
-            ),
-            (21, "long", Reply::sealed(command, [data, &[0]].concat())),
+            (21, "short", sealed(data[..last - 1].to_vec())),
+            (21, "long", sealed([data, &[0]].concat())),
             (21, "very-long", Reply::done(self.rng.bytes(255))),
             (22, "wrong-pec", Reply::done(wrong_pec)),
             (22, "wrong-data", Reply::done(wrong_data)),
-            (22, "pec-without-c1", Reply::done(pec_without)),
+            (22, "pec-without-c1", pec_without),
         ];
         if command != 0xC5 {
-            faults.extend(faulty_blocks(command, good));
+            faults.extend(faulty_blocks(good, sealed));
         }
         faults
     }
 }
 
 /// Replies to AD or AE whose block count is wrong or missing.
-fn faulty_blocks(command: u8, good: &[u8]) -> Vec<(u8, &'static str, Reply)> {
+fn faulty_blocks(good: &[u8], sealed: impl Fn(Vec<u8>) -> Reply) -> Vec<Faulty> {
     let data = &good[1..good.len() - 1];
     let counts = [
         ("block-3", 3),
@@ -168,13 +168,13 @@ fn faulty_blocks(command: u8, good: &[u8]) -> Vec<(u8, &'static str, Reply)> {
         ("block-0", 0),
         ("block-84", 0x84),
     ];
-    let mut faults: Vec<_> = counts
+    let mut faults: Vec<Faulty> = counts
         .into_iter()
-        .map(|(name, count)| (21, name, Reply::sealed(command, [&[count], data].concat())))
+        .map(|(name, count)| (21, name, sealed([&[count], data].concat())))
         .collect();
     let mut both = good.to_vec();
     both[0] = 6;
     faults.push((21, "block-6-and-pec", Reply::done(both)));
-    faults.push((21, "no-block", Reply::sealed(command, data.to_vec())));
+    faults.push((21, "no-block", sealed(data.to_vec())));
     faults
 }
