@@ -2,8 +2,9 @@
 
 use cases::line::{line, pec};
 use cases::random::Rng;
+use cases::random_address;
 use cases::text::capital;
-use cases::{HEADER_BYTES, RULE_PLACE, SETTINGS_BYTES};
+use cases::{ADDRESS_PLACE, HEADER_BYTES, RULE_PLACE, SETTINGS_BYTES};
 
 /// No text gets longer: far more than a file may have, and less than the C side has room for.
 const LONGEST: usize = 200_000;
@@ -200,7 +201,8 @@ fn resealed(rng: &mut Rng, text: &mut Vec<u8>) {
     text.splice(start..end, capital(&bytes));
 }
 
-fn decoded(digits: &[u8]) -> Option<Vec<u8>> {
+/// The bytes that hex digits stand for.
+pub fn decoded(digits: &[u8]) -> Option<Vec<u8>> {
     let digits = std::str::from_utf8(digits).ok()?;
     if digits.len() % 2 == 1 || !digits.is_ascii() {
         return None;
@@ -224,7 +226,7 @@ pub fn changed_input(rng: &mut Rng, input: &[u8]) -> Vec<u8> {
     let (file, replies) = (&input[HEADER_BYTES..behind], &input[behind..]);
     let (mut settings, mut file, mut replies) =
         (settings.to_vec(), file.to_vec(), replies.to_vec());
-    match rng.below(9) {
+    match rng.below(10) {
         0 => {
             let place = rng.below(SETTINGS_BYTES);
             settings[place] = rng.byte();
@@ -233,22 +235,29 @@ pub fn changed_input(rng: &mut Rng, input: &[u8]) -> Vec<u8> {
         2 => replies.truncate(rng.below(replies.len() + 1)),
         // Mostly an allowed rule, so that the counter is judged by the other one.
         3 => settings[RULE_PLACE] = rng.pick(&[0, 1, 1, 2, 2, 3]),
-        _ if !replies.is_empty() => {
-            // The first replies are those that are judged; the others answer the write lines.
-            let bound = if rng.once_in(2) {
-                replies.len().min(48)
-            } else {
-                replies.len()
-            };
-            let place = rng.below(bound);
-            match rng.below(3) {
-                0 => replies[place] = rng.byte(),
-                1 => replies[place] ^= 1 << rng.below(8),
-                _ => replies.insert(place, rng.pick(&[0, 1, 2, 5, 6])),
-            }
-        }
-        _ => {}
+        // Mostly an allowed address, so that the replies' PECs are judged by it.
+        4 => settings[ADDRESS_PLACE] = random_address(rng),
+        _ => change_reply(rng, &mut replies),
     }
     let length = (file.len() as u32).to_le_bytes();
     [&settings[..], &length[..], &file[..], &replies[..]].concat()
+}
+
+/// A byte of the replies changed, or one more among them.
+fn change_reply(rng: &mut Rng, replies: &mut Vec<u8>) {
+    if replies.is_empty() {
+        return;
+    }
+    // The first replies are those that are judged; the others answer the write lines.
+    let bound = if rng.once_in(2) {
+        replies.len().min(48)
+    } else {
+        replies.len()
+    };
+    let place = rng.below(bound);
+    match rng.below(3) {
+        0 => replies[place] = rng.byte(),
+        1 => replies[place] ^= 1 << rng.below(8),
+        _ => replies.insert(place, rng.pick(&[0, 1, 2, 5, 6])),
+    }
 }

@@ -15,6 +15,7 @@ mod printing;
 mod programs;
 mod refusal;
 mod replay;
+mod requests;
 mod seeded;
 mod show;
 mod tally;

@@ -23,6 +23,8 @@ pub struct Printing {
     pub ending_of: fn(&str) -> Option<Ending>,
     /// What the tally counts a case as that ended so.
     pub word_of: fn(&Case, Ending) -> String,
+    /// What is wrong with what was printed by the documents alone, whoever agrees.
+    pub breach_of: fn(&Case, &str) -> Option<String>,
     pub floor: Floor,
 }
 
@@ -51,11 +53,12 @@ impl Printing {
         let ours = program.output_for(&case.bytes)?;
         let theirs = (self.second)(&case.bytes);
         let ending = (self.ending_of)(&theirs);
+        let breach = (self.breach_of)(case, &theirs);
         Ok(Answers {
             ours,
             theirs: theirs.into_bytes(),
             word: ending.map_or("no answer".into(), |ending| (self.word_of)(case, ending)),
-            fault: fault_of(case, ending),
+            fault: fault_of(case, ending).or(breach),
         })
     }
 }

@@ -13,6 +13,7 @@ pub const SHOW: Printing = Printing {
     second: second::show,
     ending_of,
     word_of: |_, ending| ending.word(),
+    breach_of: |_, _| None,
     floor: FLOOR,
 };
 
