@@ -1,7 +1,7 @@
 //! One reply in the loop of write lines: the proved session, by an entry for measuring, against a plain one in Rust that does the
 //! same work for each reply: it takes the reply from the input, looks at the state it holds, judges the reply, reads and checks the
-//! line that is due, and makes the request. Both start with line 5 out, and the time until then is taken off: in the proved one it
-//! is spent on the input, the check of the file and the replies of step 2.
+//! line that is due, and makes the request, with the address in use and its own PEC. Both start with line 5 out, and the time until
+//! then is taken off: in the proved one it is spent on the input, the check of the file and the replies of step 2.
 use crate::plain::{nibble, REMAINDERS};
 use crate::times::{black_box, least, Row};
 
@@ -15,22 +15,27 @@ const LINES: u32 = 2916;
 const OPENING: u32 = 6;
 const REPLIES: u32 = LINES - 5;
 pub const ALL: u32 = OPENING + REPLIES;
-/// The house rule of both sessions.
+/// The house rule of both sessions, and their address, another than the file's lines say.
 const RULE: u8 = 1;
+const ADDRESS: u8 = 0xC2;
+
+fn pec_of(bytes: &[u8]) -> u8 {
+    bytes.iter().fold(0, |crc, byte| REMAINDERS[(crc ^ byte) as usize])
+}
 
 /// The reply to a read, as it stands in a dry run: done, its length, its bytes and their PEC.
 fn told(command: u8, said: &[u8]) -> Vec<u8> {
-    let pec = [0xC0, command, 0xC1].iter().chain(said).fold(0, |crc, byte| REMAINDERS[(crc ^ byte) as usize]);
+    let pec = pec_of(&[&[ADDRESS, command, ADDRESS + 1], said].concat());
     [&[1, said.len() as u8 + 1], said, &[pec]].concat()
 }
 
 /// The dry run of an accepted production file (crates/dryrun/src/parts.rt): step 1 not wanted, poll limit 1, RESTORE_CFG F2, house
-/// rule 1; the file; step 2 of a new device that fits it; and an acknowledgement for every line but the last.
+/// rule 1, address C2; the file; step 2 of a new device that fits it; and an acknowledgement for every line but the last.
 pub fn dry_run(text: &[u8]) -> Vec<u8> {
     let digit = |at: usize| nibble(text[at]).expect("a digit of line 1");
     let [a, b, c, d] = [14, 12, 10, 8].map(|at| 16 * digit(at) + digit(at + 1));
     let acknowledged = [1u8, 0];
-    let mut input = vec![0, 1, 0, 0xF2, RULE];
+    let mut input = vec![0, 1, 0, 0xF2, RULE, ADDRESS];
     input.extend((text.len() as u32).to_le_bytes());
     input.extend(text);
     input.extend(acknowledged);
@@ -48,6 +53,7 @@ struct Held {
     configs: u32,
     limit: u32,
     rule: u8,
+    address: u8,
     polls: u32,
     config: u32,
     ids: [u8; 8],
@@ -63,7 +69,7 @@ struct Request {
     reads: bool,
 }
 
-/// The bytes of the write line at a place, how many there are, and the place behind it.
+/// The bytes of the write line at a place, how many there are, and the place behind it. The line says C0 at any address in use.
 fn due(text: &[u8], place: usize) -> Option<([u8; 10], usize, usize)> {
     let rest = text.get(place..)?;
     if rest.is_empty() {
@@ -80,15 +86,27 @@ fn due(text: &[u8], place: usize) -> Option<([u8; 10], usize, usize)> {
         *byte = 16 * nibble(pair[0])? + nibble(pair[1])?;
     }
     let m = line.len() / 2;
-    let crc = bytes[2..m - 1].iter().fold(0, |crc, byte| REMAINDERS[(crc ^ byte) as usize]);
+    let crc = pec_of(&bytes[2..m - 1]);
     let form = bytes[0] == 0 && bytes[2] == 0xC0 && matches!((bytes[3], m - 5), (0xC7 | 0xE7, 2) | (0xC5 | 0xC6, 4));
     (bytes[1] as usize + 2 == m && crc == bytes[m - 1] && form).then_some((bytes, m, place + length.map_or(rest.len(), |n| n + 1)))
+}
+
+/// The write of a command and its data at an address, with its own PEC.
+fn written(address: u8, said: &[u8]) -> Request {
+    let last = 1 + said.len();
+    let mut bytes = [0; 8];
+    bytes[0] = address;
+    bytes[1..last].copy_from_slice(said);
+    bytes[last] = pec_of(&bytes[..last]);
+    Request { bytes, used: last as u8 + 1, reads: false }
 }
 
 #[inline(never)]
 fn reply(held: &mut Held, text: &[u8], kind: u8, bytes: &[u8]) -> Option<Request> {
     let sound = (1..=10_000).contains(&held.limit)
         && (1..=2).contains(&held.rule)
+        && (0x10..=0xEE).contains(&held.address)
+        && held.address % 2 == 0
         && (1..=8).contains(&held.configs)
         && held.lines == 12 + 363 * held.configs
         && (5..=held.lines).contains(&held.line)
@@ -104,8 +122,7 @@ fn reply(held: &mut Held, text: &[u8], kind: u8, bytes: &[u8]) -> Option<Request
     if burn != (held.line + 1 == held.lines) {
         return None;
     }
-    let mut request = Request { bytes: [0; 8], used: (m - 2) as u8, reads: false };
-    request.bytes[..m - 2].copy_from_slice(&line[2..m]);
+    let request = written(held.address, &line[3..m - 1]);
     held.line += 1;
     held.place = next;
     held.sent += 1;
@@ -123,8 +140,20 @@ fn reply_at(input: &[u8], at: usize) -> Option<(u8, &[u8], usize)> {
 fn plain(input: &[u8], text: &[u8], replies: u32) -> u32 {
     let place = text.iter().enumerate().filter(|(_, &byte)| byte == b'\n').nth(4).map_or(0, |(at, _)| at + 1);
     let ids = [0, 1, 2, 3, 4, 5, 6, 7];
-    let mut held =
-        Held { lines: LINES, configs: 8, limit: 1, rule: RULE, polls: 0, config: 0, ids, line: 5, place, sent: 7, burned: false };
+    let mut held = Held {
+        lines: LINES,
+        configs: 8,
+        limit: 1,
+        rule: RULE,
+        address: ADDRESS,
+        polls: 0,
+        config: 0,
+        ids,
+        line: 5,
+        place,
+        sent: 7,
+        burned: false,
+    };
     let mut at = input.len() - 2 * REPLIES as usize;
     for _ in 0..replies {
         if let Some((kind, bytes, end)) = reply_at(black_box(input), at) {
