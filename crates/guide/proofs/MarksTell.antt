@@ -24,8 +24,8 @@ use Rattle.guide.specs.Guide.{writeLinesOf, guideFor}
 use Rattle.guide.specs.Statements.{lineAsked, isBurnMark, burnsIn, sameBytes, spellings, MarksTell, SpelledOnce}
 use Rattle.guide.proofs.Through.{asked}
 use Rattle.guide.proofs.Every.{Every, asks, ends, every-request, Other, point, word, identity, revision, set, command, load, guide-every}
-use Rattle.guide.specs.Wire.{Wire, RightAt}
-use Rattle.guide.proofs.LineBytes.{burning, line-spelt, line-out}
+use Rattle.guide.specs.Wire.{Wire, inUse, asTheyStand, RightAt}
+use Rattle.guide.proofs.LineBytes.{in-use, stands, burning, line-spelt, line-out}
 use Rattle.guide.proofs.FileFacts.{FileFacts, valuesAt}
 use Rattle.guide.specs.Terms.{Terms}
 
@@ -122,3 +122,12 @@ module _ (W : Wire) (T : Terms) (right : RightAt (T .address) W) (file : Summary
   marks-tell =
       let every = guide-every {P = Tells} T file other-tells written line-tells in
       record { tells = λ q i m e. every-request {P = Tells} every rs q m i e }
+
+-- ---- with the address in use, and at C0 as they stand
+
+pub marks-in-use : (T : Terms) (file : Summary) (text : List ℕ) → FileFacts file text → (rs : List Reply) → MarksTell T file text rs (inUse (T .address))
+marks-in-use T file text facts rs = marks-tell (inUse (T .address)) T (in-use (T .address)) file text facts rs
+
+pub marks-at-C0 : (T : Terms) → T .address ≡ 0xC0 → (file : Summary) (text : List ℕ) → FileFacts file text → (rs : List Reply)
+    → MarksTell T file text rs asTheyStand
+marks-at-C0 T e file text facts rs = marks-tell asTheyStand T (rw e stands) file text facts rs
