@@ -21,9 +21,10 @@ use Rattle.guide.specs.Guide.{writeLinesOf, guideFor}
 use Rattle.guide.proofs.Every.{every-request, Other, point, word, identity, revision, set, command, load, guide-every}
 use Rattle.session.specs.declared.Settings.{Settings}
 use Rattle.session.specs.Terms.{keeping}
-use Rattle.demands.specs.Rules.{out}
+use Rattle.session.specs.declared.Handed.{Handed}
+use Rattle.demands.specs.Runs.{BegunFor, sent}
 use Rattle.demands.specs.Addresses.{GoesTo, ToTheAddress}
-use Rattle.demands.proofs.Guided.{guided}
+use Rattle.demands.proofs.Guided.{begun-is, guided}
 use Rattle.demands.proofs.AnyStart.{any-start}
 
 -- ---- one request
@@ -57,7 +58,7 @@ module _ (T : Terms) (high : T .address ≤ 0xEE) (file : Summary) (text : List 
   abbrev To : Asked → Type 0
   To q = GoesTo (T .address) (q .request)
 
-  other-goes : (q : Request) → Other T file q → GoesTo (T .address) q
+  pub other-goes : (q : Request) → Other T file q → GoesTo (T .address) q
   unfolding wordBytes
   other-goes _ (point a b) = write-goes (T .address) _ _ (omega arith)
   other-goes _ word = read-goes (T .address) _ _ high
@@ -67,7 +68,7 @@ module _ (T : Terms) (high : T .address ≤ 0xEE) (file : Summary) (text : List 
   other-goes _ command = write-goes (T .address) _ _ (omega arith)
   other-goes _ (load N) = write-goes (T .address) _ _ (omega arith)
 
-  line-goes : (l : Line) → GoesTo (T .address) (lineRequest (T .address) l)
+  pub line-goes : (l : Line) → GoesTo (T .address) (lineRequest (T .address) l)
   unfolding lineRequest lineData
   line-goes l = write-goes (T .address) (l .command) _ (simp length-take (omega arith))
 
@@ -83,11 +84,11 @@ module _ (T : Terms) (high : T .address ≤ 0xEE) (file : Summary) (text : List 
 
 -- ---- of any settings and text
 
-module _ (S : Settings) (text : List ℕ) (rs : List Reply) where
-  every : (q : Request) → List·Memᴰ q (out S text rs) → GoesTo (S .address) q
+module _ (S : Settings) (text : List ℕ) {h : Handed} (b : BegunFor S text h) (rs : List Reply) where
+  every : (q : Request) → List·Memᴰ q (sent text h rs) → GoesTo (S .address) q
   every q m =
-      any-start S text rs (λ e. absurd (List·Memᴰ·not-nil (rw e at m)))
-      (λ P. guide-goes (keeping _ S) (P .allowed .high) _ text rs q (rw (guided P rs .sameRequests) at m))
+      any-start S text rs b (λ e. absurd (List·Memᴰ·not-nil (rw e at m)))
+      (λ P. guide-goes (keeping _ S) (P .allowed .high) _ text rs q (rw (begun-is P b, guided P rs .sameRequests) at m))
 
-  pub to-the-address : ToTheAddress S text rs
+  pub to-the-address : ToTheAddress (S .address) (sent text h rs)
   to-the-address = record { every = every; nowhere = λ other m. every (burnTo other) m .first }

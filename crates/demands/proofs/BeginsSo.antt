@@ -1,4 +1,4 @@
--- What a begin hands back, refused or accepted. Assumes nothing.
+-- What a begin hands back, refused or accepted, with a summary or by the one operation. Assumes nothing.
 use Prim.Native.Nat.{ℕ, _+_}
 use mathlib.Core.Path.{_≡_, refl, sym, ap}
 use mathlib.Core.Bool.{true, false}
@@ -12,19 +12,19 @@ use Rattle.bus.specs.declared.Request.{Request}
 use Rattle.bus.specs.Bus.{eight, noRequest}
 use Rattle.guide.specs.Requests.{pointTo}
 use Rattle.guide.specs.declared.Verdict.{Verdict}
-use Rattle.guide.specs.declared.Verdict.the-variants.{Setting, File}
+use Rattle.guide.specs.declared.Verdict.the-variants.{Setting, File, State}
 use Rattle.session.specs.declared.Settings.{Settings}
 use Rattle.session.specs.declared.Session.{Session}
 use Rattle.session.specs.declared.Handed.{Handed}
 use Rattle.session.specs.declared.Answer.the-variants.{Next}
 use Rattle.session.specs.declared.Awaited.{Awaited}
 use Rattle.session.specs.declared.Awaited.the-variants.{CaptureAt, CounterAt}
-use Rattle.session.specs.Sound.{allowedOf}
+use Rattle.session.specs.Sound.{allowedOf, fileSound}
 use Rattle.session.specs.Moves.{withStage, withSent, putOf, overOf}
-use Rattle.session.specs.Begin.{freshOf, firstOf, startOf, refusedOf, answeredOf, beginOf}
-use Rattle.demands.specs.Exactly.{Begun, BeginsSo}
+use Rattle.session.specs.Begin.{freshOf, firstOf, startOf, refusedOf, beginWith, answeredOf, beginOf}
+use Rattle.demands.specs.AtBegin.{Begun}
 use Rattle.demands.proofs.Cases.{next-bad, next-over, over-bad}
-use Rattle.session.proofs.Laws.{begin-answered, begin-not}
+use Rattle.session.proofs.Laws.{begin-sound, begin-unsound, begin-out, begin-answered, begin-not}
 use Rattle.demands.proofs.EveryStep.{by}
 
 module _ (s : Session) where
@@ -54,9 +54,15 @@ module _ (S : Settings) where
   unfolding refusedOf overOf freshOf noRequest eight
   refused-begun v = record { refused = λ w e. (cc, refl, refl, refl); accepted = λ e. next-over (sym e); never = λ e. over-bad e }
 
+  pub begins-with : (f : Summary) → Begun (beginWith S f)
+  begins-with f =
+      split (allowedOf S)
+      (λ a. split (fileSound f) (λ e. rw (← begin-sound S f a e) (start-begun f)) (λ e. rw (← begin-unsound S f a e) (refused-begun State)))
+      (λ a. rw (← begin-out S f a) (refused-begun Setting))
+
   answered-begun : (f : Summary) (a : FileAnswer) → Begun (answeredOf S f a)
   unfolding answeredOf
-  answered-begun f Accepted = start-begun f
+  answered-begun f Accepted = begins-with f
   answered-begun f (Refused r) = refused-begun (File r)
 
 module _ (S : Settings) (text : List ℕ) where
@@ -64,8 +70,7 @@ module _ (S : Settings) (text : List ℕ) where
   pub begun : allowedOf S ≡ true → answeredOf S (checkOf text .summary) (checkOf text .answer) ≡ beginOf S text
   begun e = begin-answered S text (checkOf text) (checkOf text .answer) refl e refl
 
-  pub begins-so : BeginsSo S text
-  unfolding BeginsSo
+  pub begins-so : Begun (beginOf S text)
   begins-so =
       split (allowedOf S) (λ a. rw (← begun a) (answered-begun S (checkOf text .summary) (checkOf text .answer)))
       (λ a. rw (← begin-not S text a) (refused-begun S Setting))

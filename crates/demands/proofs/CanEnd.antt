@@ -20,6 +20,8 @@ use Rattle.guide.specs.Course.{heard3, heard4, heard6, configsIn, contentOf, Sa
 use Rattle.guide.proofs.Banks.{ones, ones-small, ones-right}
 use Rattle.session.specs.declared.Settings.{Settings}
 use Rattle.session.specs.Terms.{keeping}
+use Rattle.session.specs.declared.Handed.{Handed}
+use Rattle.demands.specs.Runs.{BegunFor}
 use Rattle.demands.specs.Headline.{Allowed, Keeps}
 use Rattle.demands.specs.Demands.{OfBytes, CanEnd, contentIn, reportFor}
 use Rattle.demands.proofs.SettingsSay.{kept-few}
@@ -32,7 +34,7 @@ use Rattle.demands.proofs.RepliesInForm.{Able, and, able-both, able-ans
 
 -- ---- what some exchanges ask
 
-asked-both : (xs ys : List Exchange) → askedIn (xs ++ ys) ≡ askedIn xs ++ askedIn ys
+pub asked-both : (xs ys : List Exchange) → askedIn (xs ++ ys) ≡ askedIn xs ++ askedIn ys
 unfolding askedIn
 asked-both [] ys = refl
 asked-both (x ∷ xs) ys = ap (λ (l : List Request). x .request ∷ l) (asked-both xs ys)
@@ -120,9 +122,9 @@ module _ (S : Settings) {kept : ℕ} (r : Keeps (S .rule) kept) {text : List ℕ
       let lines = lines-are m right ∙ last .1 in
       line-asked (opened T (contentOf (T .address) file text) w) _ _ (rw lines (Memᴰ·append-right (last .0) (List·Memᴰ·head refl)))
 
-  pub can-end : CanEnd S text
-  can-end =
-      let d = demand2 S right r m a rs in
+  pub can-end : {h : Handed} → BegunFor S text h → CanEnd S text h
+  can-end b =
+      let d = demand2 S right r m a rs b in
       let o = d .only (over 0 0) (askedIn all) goes in
       record {
         replies = rs;

@@ -8,7 +8,7 @@ use Rattle.summary.specs.declared.Summary.{Summary}
 use Rattle.image.specs.Check.{checkOf}
 use Rattle.image.specs.Meets.{Meets}
 use Rattle.image.proofs.AcceptedExactly.{accepted-exactly}
-use Rattle.guide.specs.declared.Verdict.the-variants.{Done, Setting, File, Mismatch, Halted}
+use Rattle.guide.specs.declared.Verdict.the-variants.{Done, Setting, File, Mismatch, Halted, State}
 use Rattle.summary.specs.Answers.{refusalTold}
 use Rattle.summary.proofs.Numbers.{refusal-number}
 use Rattle.bus.specs.declared.Request.{Request}
@@ -26,20 +26,19 @@ use Rattle.session.specs.declared.Settings.{Settings}
 use Rattle.session.specs.Reports.{reportOf}
 use Rattle.session.specs.Terms.{keeping}
 use Rattle.session.specs.declared.Handed.{Handed}
-use Rattle.session.specs.Begin.{startOf, beginOf}
-use Rattle.demands.specs.Runs.{sent, after}
+use Rattle.demands.specs.Runs.{BegunFor, sent, after}
 use Rattle.demands.specs.Headline.{Allowed, Keeps}
 use Rattle.demands.specs.Guided.{Premises, answerFor, Guided}
 use Rattle.demands.specs.Demands.{reportFor, Demand2}
 use Rattle.demands.proofs.PremisesGive.{facts}
-use Rattle.demands.proofs.Guided.{guided-start, guided}
+use Rattle.demands.proofs.Guided.{begun-is, guided}
 use Rattle.demands.proofs.ContentIs.{content-is}
 
 -- a text that meets the document is accepted
 pub premises : (S : Settings) {kept : ℕ} → Keeps (S .rule) kept → {text : List ℕ} → Meets text → Allowed (keeping kept S) → Premises S kept text (checkOf text .summary)
 premises S r {text} m a = record { accepted = accepted-exactly text .meets-accepted m; summary = refl; rule = r; allowed = a }
 
--- ---- no verdict of a session is a refusal of the file or of a setting
+-- ---- no verdict of a session is a refusal of the file, of a setting or of a summary
 
 -- 0, or one from 20 on
 abbrev LateNumber : Now → Type 0
@@ -58,7 +57,7 @@ course-late _ (waits q o) = tt
 course-late _ (refused q r later o number N f) = inr (reply-turns (f .applies) .0)
 course-late _ (judged xs left number N h j) = judged-late j
 
-early : {A : Type 0} (n : ℕ) → 1 ≤ n → n ≤ 14 → (n ≡ 0) ⊎ (20 ≤ n) → A
+early : {A : Type 0} (n : ℕ) → 1 ≤ n → n ≤ 15 → (n ≡ 0) ⊎ (20 ≤ n) → A
 early n f g (inl e) = absurd (let y : ⊥ = omega arith in y)
 early n f g (inr e) = absurd (let y : ⊥ = omega arith in y)
 
@@ -71,6 +70,7 @@ reports (ended Setting) h = early 14 (omega arith) (omega arith) h
 reports (ended (File r)) h = let n = refusal-number r in early (refusalTold r .number) (n .some) (omega (arith, n .few)) h
 reports (ended (Mismatch N)) h = refl
 reports (ended (Halted r)) h = refl
+reports (ended State) h = early 15 (omega arith) (omega arith) h
 
 module _ (S : Settings) {W : Wire} (right : RightAt (S .address) W) {kept : ℕ} (r : Keeps (S .rule) kept) {text : List ℕ} (m : Meets text)
     (a : Allowed (keeping kept S)) where
@@ -99,8 +99,5 @@ module _ (S : Settings) {W : Wire} (right : RightAt (S .address) W) {kept : ℕ}
     abbrev Holds : Handed → Type 0
     Holds start = Demand2 W T m rs (sent text start rs) (after text start rs)
 
-    pub demand2-start : Holds (startOf S file)
-    demand2-start = by-guide rs (guided-start (premises S r m a) rs)
-
-    pub demand2 : Holds (beginOf S text)
-    demand2 = by-guide rs (guided (premises S r m a) rs)
+    pub demand2 : {h : Handed} → BegunFor S text h → Holds h
+    demand2 b = rw (begun-is (premises S r m a) b) (by-guide rs (guided (premises S r m a) rs))

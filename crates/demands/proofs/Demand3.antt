@@ -35,15 +35,16 @@ use Rattle.guide.proofs.GateUnless.{Begins12, gate-unless12}
 use Rattle.guide.proofs.GateOpens.{reached, gate-next}
 use Rattle.session.specs.declared.Settings.{Settings}
 use Rattle.session.specs.declared.Answer.the-variants.{BadState}
-use Rattle.session.specs.Begin.{newPosition, freshOf, startOf, beginOf}
+use Rattle.session.specs.declared.Handed.{Handed}
+use Rattle.session.specs.Begin.{newPosition, freshOf, startOf}
 use Rattle.session.specs.Terms.{keeping}
-use Rattle.demands.specs.Runs.{sent, after}
+use Rattle.demands.specs.Runs.{BegunFor, sent, after}
 use Rattle.demands.specs.Headline.{Allowed, Keeps, Answered, linesOut, targetIn}
 use Rattle.demands.specs.Headline as head
 use Rattle.demands.specs.Guided.{Premises, answerFor}
 use Rattle.demands.specs.Demands.{contentIn, Demand3}
 use Rattle.demands.proofs.PremisesGive.{facts}
-use Rattle.demands.proofs.Guided.{begin-is, run, guided}
+use Rattle.demands.proofs.Guided.{begun-is, run, guided}
 use Rattle.demands.proofs.BurnIsLast.{burn-is-last}
 use Rattle.demands.proofs.ContentIs.{lines-are, target-is, content-is}
 use Rattle.demands.proofs.BurnSpelled.{mem-spelled}
@@ -100,7 +101,7 @@ module _ (S : Settings) {W : Wire} (right : RightAt (S .address) W) {kept : ℕ}
   list = requests (guideFor T file text) rs
 
   abbrev out : List Request
-  out = sent text (beginOf S text) rs
+  out = sent text (startOf S file) rs
 
   abbrev ls : List Line
   ls = writeLinesOf text
@@ -152,11 +153,11 @@ module _ (S : Settings) {W : Wire} (right : RightAt (S .address) W) {kept : ℕ}
       let k = lines-answered (T .address) 5 ls (behind T file) before (W .burn) (w .left) (lines-are m right ∙ burn-is-last right m .1) (answered-behind (w .came) a) in
       (k .0, behind-opening w ∙ (ap (λ (l : List Request). opens w ++ l) (k .1) ∙ sym (append-assoc (opens w) before _)))
 
-  burned-is : after text (beginOf S text) rs .session .burned ≡ leb 1 (burnsIn (file .lines) list)
+  burned-is : after text (startOf S file) rs .session .burned ≡ leb 1 (burnsIn (file .lines) list)
   unfolding freshOf newPosition
-  burned-is = rw (begin-is P) (run P rs .burning ∙ ap (λ k. leb 1 (burnsIn k list)) (sym (lines-count text (facts P))))
+  burned-is = run P rs .burning ∙ ap (λ k. leb 1 (burnsIn k list)) (sym (lines-count text (facts P)))
 
-  reports : (after text (beginOf S text) rs .session .burned ≡ true) ↔ List·Memᴰ (W .burn) out
+  reports : (after text (startOf S file) rs .session .burned ≡ true) ↔ List·Memᴰ (W .burn) out
   reports = (
     λ e. let x = may-burn P right rs (leb-true 1 _ (sym burned-is ∙ e)) in
         rw (x .order) (Memᴰ·append-right (askedIn (opening (T .address) (T .wanted) (x .matched .captured) (x .matched .read))) (Memᴰ·append-right (linesOut W (x .lines)) (List·Memᴰ·head {xs = x .behind} refl))),
@@ -176,9 +177,9 @@ module _ (S : Settings) {W : Wire} (right : RightAt (S .address) W) {kept : ℕ}
   length-is : length out ≡ length list
   length-is = ap length (guided P rs .sameRequests) ∙ bare-length list
 
-  pub demand3 : Demand3 W T m rs out (after text (beginOf S text) rs)
+  demand3-start : Demand3 W T m rs out (after text (startOf S file) rs)
   unfolding Bounded freshOf newPosition
-  demand3 =
+  demand3-start =
       let says = summary-says m in
       record {
         never15 = λ h. never-bad _ (sym (guided P rs .sameAnswer) ∙ h);
@@ -187,10 +188,10 @@ module _ (S : Settings) {W : Wire} (right : RightAt (S .address) W) {kept : ℕ}
         next = next;
         once = (burn-is-last right m .0, burn-is-last right m .1, once);
         never = burn-allowed P right rs;
-        counts = rw length-is (rw (begin-is P) (omega (arith, run P rs .counting)));
+        counts = rw length-is (omega (arith, run P rs .counting));
         reports = reports;
         bound = rw length-is (omega (arith, bounded T file text (facts P) rs, says .lines, says .configs));
       }
 
-  pub demand3-start : Demand3 W T m rs (sent text (startOf S file) rs) (after text (startOf S file) rs)
-  demand3-start = rw (begin-is P) at demand3
+  pub demand3 : {h : Handed} → BegunFor S text h → Demand3 W T m rs (sent text h rs) (after text h rs)
+  demand3 b = rw (begun-is P b) demand3-start

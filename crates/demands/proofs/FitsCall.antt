@@ -43,7 +43,7 @@ unfoldable pub burnOf : ℕ → Plan → Bool
 burnOf n (ask q next) = isBurnMark n (q .mark)
 burnOf n (done v) = false
 
-putOut-some : (q : Request) → 1 ≤ q .used → putOut q ≡ q ∷ []
+pub putOut-some : (q : Request) → 1 ≤ q .used → putOut q ≡ q ∷ []
 unfolding putOut
 putOut-some q h = rw (ne-eqb (q .used) 0 (omega arith))
 

@@ -19,24 +19,48 @@ use Rattle.summary.proofs.Numbers.{refusal-number}
 use Rattle.session.specs.declared.Settings.{Settings}
 use Rattle.session.specs.declared.Report.the-variants.{Waiting, Is}
 use Rattle.session.specs.Reports.{reportOf}
-use Rattle.session.specs.Sound.{allowedOf}
+use Rattle.guide.specs.declared.Verdict.{Verdict}
+use Rattle.guide.specs.declared.Verdict.the-variants.{File, State}
+use Rattle.guide.specs.Numbers.{verdictTold}
+use Rattle.session.specs.Sound.{allowedOf, fileSound}
 use Rattle.session.specs.Moves.{overOf}
-use Rattle.session.specs.Begin.{refusedOf, answeredOf, beginOf}
-use Rattle.demands.specs.Exactly.{SettingOut, FourteenExactly, FileExactly}
-use Rattle.session.proofs.Laws.{begin-not}
+use Rattle.session.specs.Begin.{startOf, refusedOf, beginWith, answeredOf, beginOf}
+use Rattle.demands.specs.Exactly.{SettingOut}
+use Rattle.demands.specs.AtBegin.{FourteenExactly, FileExactly}
+use Rattle.session.proofs.Laws.{begin-sound, begin-unsound, begin-out, begin-not}
+use Rattle.demands.proofs.PremisesGive.{file-sound}
 use Rattle.demands.proofs.SettingsOut.{out-refused, refused-out}
 use Rattle.demands.proofs.BeginsSo.{started, begun}
 
 module _ (S : Settings) where
-  answered-not : {A : Type 0} (f : Summary) (a : FileAnswer) (t : Told) → reportOf (answeredOf S f a .answer) ≡ Is t → t .number ≡ 14 → A
-  unfolding answeredOf refusedOf overOf reportOf
-  answered-not f Accepted t e n =
+  -- a begin that is not refused awaits a reply
+  pub waits : {A : Type 0} (f : Summary) (t : Told) → reportOf (startOf S f .answer) ≡ Is t → A
+  unfolding reportOf
+  waits f t e =
       let w : Waiting ≡ Is t = sym (ap reportOf (started S f)) ∙ e in
       let z : _≡_ {A = ℕ} 0 1 = cc in absurd (let y : ⊥ = omega arith in y)
-  answered-not f (Refused r) t e n =
-      let same : refusalTold r ≡ t = cc in
-      let number : refusalTold r .number ≡ 14 = ap (λ (x : Told). x .number) same ∙ n in
-      absurd (let y : ⊥ = omega (arith, number, refusal-number r .few) in y)
+
+  -- one that is tells its verdict
+  pub tells : (v : Verdict) (t : Told) → reportOf (refusedOf S v .answer) ≡ Is t → verdictTold v .number ≡ t .number
+  unfolding refusedOf overOf reportOf
+  tells v t e = let same : verdictTold v ≡ t = cc in ap (λ (x : Told). x .number) same
+
+  pub fourteen-with : (f : Summary) → FourteenExactly S (beginWith S f)
+  unfolding refusedOf overOf reportOf
+  fourteen-with f =
+      record {
+        only = λ t e n.
+            split (allowedOf S)
+            (λ a. split (fileSound f) (λ s. waits f t (rw (← begin-sound S f a s) at e))
+            (λ s. let k = tells State t (rw (← begin-unsound S f a s) at e) in absurd (let y : ⊥ = omega (arith, k, n) in y)))
+            (refused-out S);
+        when = λ o. rw (← begin-out S f (out-refused S o)) refl;
+      }
+
+  answered-only : (f : Summary) (a : FileAnswer) (t : Told) → reportOf (answeredOf S f a .answer) ≡ Is t → t .number ≡ 14 → SettingOut S
+  unfolding answeredOf
+  answered-only f Accepted t e n = fourteen-with f .only t e n
+  answered-only f (Refused r) t e n = let k = tells (File r) t e in absurd (let y : ⊥ = omega (arith, k, n, refusal-number r .few) in y)
 
   answered-told : (f : Summary) (a : FileAnswer) → (answerTold a .number ≡ 0 → ⊥) → reportOf (answeredOf S f a .answer) ≡ Is (answerTold a)
   unfolding answeredOf refusedOf overOf reportOf
@@ -46,16 +70,15 @@ module _ (S : Settings) where
 module _ (S : Settings) (text : List ℕ) where
   module _ (inside : SettingOut S → ⊥) where
     -- what a begin reports is told by the checker's answer
-    begun-told : (a : FileAnswer) → checkOf text .answer ≡ a → (answerTold a .number ≡ 0 → ⊥) → reportOf (beginOf S text .answer) ≡ Is (answerTold a)
+    pub begun-told : (a : FileAnswer) → checkOf text .answer ≡ a → (answerTold a .number ≡ 0 → ⊥) → reportOf (beginOf S text .answer) ≡ Is (answerTold a)
     begun-told a e h =
         split (allowedOf S) (λ b. rw (← begun S text b, e) (answered-told S (checkOf text .summary) a h)) (λ b. absurd (inside (refused-out S b)))
 
     begun-waits : checkOf text .answer ≡ Accepted → (t : Told) → reportOf (beginOf S text .answer) ≡ Is t → ⊥
-    unfolding answeredOf reportOf
+    unfolding answeredOf
     begun-waits e t f =
         split (allowedOf S)
-        (λ b. let w : Waiting ≡ Is t = sym (ap reportOf (started S (checkOf text .summary))) ∙ (rw (← begun S text b, e) at f) in
-        let z : _≡_ {A = ℕ} 0 1 = cc in omega arith)
+        (λ b. waits S (checkOf text .summary) t (rw (← begun S text b, e, ← begin-sound S (checkOf text .summary) b (file-sound text e)) at f))
         (λ b. inside (refused-out S b))
 
     refused-given : (a : FileAnswer) → checkOf text .answer ≡ a → (t : Told) → reportOf (beginOf S text .answer) ≡ Is t → answerTold a ≡ t
@@ -85,11 +108,11 @@ module _ (S : Settings) (text : List ℕ) where
               begun-told (checkOf text .answer) refl some ∙ ap Is e;
         }
 
-  pub fourteen-exactly : FourteenExactly S text
+  pub fourteen-exactly : FourteenExactly S (beginOf S text)
   unfolding refusedOf overOf reportOf
   fourteen-exactly =
       record {
         only = λ t e n.
-            split (allowedOf S) (λ a. answered-not S (checkOf text .summary) (checkOf text .answer) t (rw (← begun S text a) at e) n) (refused-out S);
+            split (allowedOf S) (λ a. answered-only S (checkOf text .summary) (checkOf text .answer) t (rw (← begun S text a) at e) n) (refused-out S);
         when = λ o. rw (← begin-not S text (out-refused S o)) refl;
       }

@@ -1,12 +1,13 @@
 -- Each request and each answer are what the guide's list gives for the replies so far. Assumes nothing.
-use mathlib.Core.Path.{_≡_, subst}
+use mathlib.Core.Path.{_≡_, sym, subst}
 use mathlib.Core.List.{List}
 use Prim.Native.Nat.{ℕ}
 use Rattle.guide.specs.Plan.{Reply}
 use Rattle.guide.specs.Guide.{writeLinesOf, guideFor}
 use Rattle.session.specs.declared.Settings.{Settings}
-use Rattle.session.specs.Begin.{startOf, answeredOf, checkedOf, beginOf, newPosition, freshOf}
-use Rattle.demands.specs.Runs.{sent, after}
+use Rattle.session.specs.Begin.{startOf, beginWith, answeredOf, checkedOf, beginOf, newPosition, freshOf}
+use Rattle.session.proofs.Laws.{begin-sound}
+use Rattle.demands.specs.Runs.{BegunFor, withSummary, atOnce, sent, after}
 use Rattle.demands.specs.Guided.{Premises, Guided}
 use Rattle.demands.proofs.PremisesGive.{taken, lasting, facts}
 use Rattle.demands.proofs.SessionIsGuide.{Along, before, start-along, Room}
@@ -22,10 +23,14 @@ use Rattle.session.specs.Sound.{mostSent}
 use Rattle.demands.proofs.SettingsSay.{kept-is, is-allowed}
 
 module _ {S : Settings} {kept : ℕ} {text : List ℕ} {file : Summary} (P : Premises S kept text file) where
-  -- `begin` starts where the text's own summary does
-  pub begin-is : beginOf S text ≡ startOf S file
+  -- a beginning for this text starts with the text's own summary
+  with-is : beginWith S file ≡ startOf S file
+  with-is = sym (begin-sound S file (is-allowed S (P .rule) (P .allowed)) (lasting P .sound))
+
+  pub begun-is : {h : Handed} → BegunFor S text h → h ≡ startOf S file
   unfolding beginOf checkedOf answeredOf
-  begin-is = rw (is-allowed S (P .rule) (P .allowed), taken P, P .summary)
+  begun-is (withSummary f e) = rw (e, ← P .summary) with-is
+  begun-is atOnce = rw (is-allowed S (P .rule) (P .allowed), taken P, ← P .summary) with-is
 
   -- before the first request
   abbrev pub first : Session
@@ -47,8 +52,5 @@ module _ {S : Settings} {kept : ℕ} {text : List ℕ} {file : Summary} (P : Pre
     abbrev Holds : Handed → Type 0
     Holds start = Guided (keeping kept S) file text rs (sent text start rs) (after text start rs)
 
-    pub guided-start : Holds (startOf S file)
-    guided-start = let a = run rs in record { sameRequests = a .sends; sameAnswer = a .says }
-
-    pub guided : Holds (beginOf S text)
-    guided = rw begin-is guided-start
+    pub guided : Holds (startOf S file)
+    guided = let a = run rs in record { sameRequests = a .sends; sameAnswer = a .says }

@@ -20,15 +20,16 @@ use Rattle.guide.proofs.GateOpens.{Reached, reached}
 use Rattle.guide.proofs.GateUnless.{Begins12, gate-unless12}
 use Rattle.guide.proofs.Burning.{burns-behind, before-behind}
 use Rattle.session.specs.declared.Settings.{Settings}
-use Rattle.session.specs.Begin.{beginOf}
-use Rattle.demands.specs.Runs.{sent}
+use Rattle.session.specs.declared.Handed.{Handed}
+use Rattle.session.specs.Begin.{startOf}
+use Rattle.demands.specs.Runs.{BegunFor, sent}
 use Rattle.demands.specs.Guided.{Premises}
 use Rattle.demands.specs.Headline.{targetIn, linesOut, MayBurn, Headline}
 use Rattle.guide.specs.Wire.{Wire, RightAt, inUse}
 use Rattle.guide.proofs.LineBytes.{in-use}
 use Rattle.demands.specs.Rules.{SessionHeadline}
 use Rattle.demands.proofs.PremisesGive.{meets, facts}
-use Rattle.demands.proofs.Guided.{guided}
+use Rattle.demands.proofs.Guided.{begun-is, guided}
 use Rattle.guide.proofs.CourseIsGuide.{bare-append}
 use Rattle.demands.proofs.SettingsSay.{not-reserved}
 use Rattle.demands.proofs.AnyStart.{any-start}
@@ -141,7 +142,7 @@ module _ {S : Settings} {kept : ℕ} {text : List ℕ} {file : Summary} (P : Pre
     earlier-bare : bare earlier ≡ asking ++ linesOut W (found .sofar)
     earlier-bare = bare-append (at3 .before) _ ∙ rw (at3 .asked, marked-bare W 5 (found .sofar))
 
-    pub may-burn : MayBurn W T text rs (sent text (beginOf S text) rs)
+    pub may-burn : MayBurn W T text rs (sent text (startOf S file) rs)
     unfolding bare matched
     may-burn =
         record {
@@ -162,17 +163,19 @@ module _ {S : Settings} {kept : ℕ} {text : List ℕ} {file : Summary} (P : Pre
           notBehind = λ x. omega (arith, mem-spelled (W .burn) (found .behind) x, alone .1);
         }
 
-  pub burn-allowed : Headline W T text rs (sent text (beginOf S text) rs)
+  pub burn-allowed : Headline W T text rs (sent text (startOf S file) rs)
   unfolding Headline
   burn-allowed b = may-burn (rw spells at (mem-spelled (W .burn) list (rw (guided P rs .sameRequests) at b)))
 
--- ---- of all settings and texts: a refused start puts nothing out
+-- ---- of all settings and texts, from what a beginning for the text handed back: a refused start puts nothing out
 
-pub headline : (S : Settings) {W : Wire} → RightAt (S .address) W → (text : List ℕ) (rs : List Reply) → SessionHeadline W S text rs
+pub headline : (S : Settings) {W : Wire} → RightAt (S .address) W → (text : List ℕ) {h : Handed} → BegunFor S text h → (rs : List Reply)
+    → SessionHeadline W S text h rs
 unfolding SessionHeadline Headline
-headline S right text rs b =
-    any-start S text rs (λ e. absurd (List·Memᴰ·not-nil (rw e at b))) (λ P. (keptOf (S .rule), P .rule, burn-allowed P right rs b))
+headline S right text begun rs b =
+    any-start S text rs begun (λ e. absurd (List·Memᴰ·not-nil (rw e at b)))
+    (λ P. let e = begun-is P begun in (keptOf (S .rule), P .rule, rw e (burn-allowed P right rs (rw e at b))))
 
 -- with the address in use
-pub session-headline : (S : Settings) (text : List ℕ) (rs : List Reply) → SessionHeadline (inUse (S .address)) S text rs
-session-headline S text rs = headline S (in-use (S .address)) text rs
+pub session-headline : (S : Settings) (text : List ℕ) {h : Handed} → BegunFor S text h → (rs : List Reply) → SessionHeadline (inUse (S .address)) S text h rs
+session-headline S text begun rs = headline S (in-use (S .address)) text begun rs

@@ -33,6 +33,8 @@ pub mod FifteenExactly
 pub mod CarriesOn
 pub mod BeginsSo
 pub mod FourteenExactly
+pub mod FifteenAtBegin
+pub mod Composed
 pub mod NoReport12
 pub mod WroteBack
 pub mod Blind

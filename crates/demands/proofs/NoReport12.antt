@@ -8,7 +8,7 @@ use Rattle.summary.proofs.Numbers.{refusal-number}
 use Rattle.guide.specs.declared.Reason.{Reason}
 use Rattle.guide.specs.declared.Reason.the-variants.{Nack, Shape, Pec, Counter, Identity, Flag, Old, OtherKind, Places, Program, Banks}
 use Rattle.guide.specs.declared.Verdict.{Verdict}
-use Rattle.guide.specs.declared.Verdict.the-variants.{Done, Setting, File, Mismatch, Halted}
+use Rattle.guide.specs.declared.Verdict.the-variants.{Done, Setting, File, Mismatch, Halted, State}
 use Rattle.guide.specs.Numbers.{reasonNumber, verdictTold}
 use Rattle.session.specs.declared.Answer.{Answer}
 use Rattle.session.specs.declared.Answer.the-variants.{Next, Over, BadState}
@@ -35,6 +35,7 @@ verdict-not Setting e = omega arith
 verdict-not (File r) e = refusal-number r .not12 e
 verdict-not (Mismatch n) e = omega arith
 verdict-not (Halted r) e = omega (arith, reason-late r)
+verdict-not State e = omega arith
 
 -- the same number, where the same is told
 told-not : (t u : Told) → (t .number ≡ 12 → ⊥) → Is t ≡ Is u → u .number ≡ 12 → ⊥

@@ -16,6 +16,8 @@ use Rattle.guide.proofs.LineBytes.{in-use}
 use Rattle.session.specs.declared.Settings.{Settings}
 use Rattle.session.specs.declared.Report.the-variants.{Is}
 use Rattle.session.specs.Terms.{keptOf, keeping}
+use Rattle.session.specs.declared.Handed.{Handed}
+use Rattle.demands.specs.Runs.{BegunFor}
 use Rattle.demands.specs.Headline.{Allowed, Keeps, rule1, rule2, targetIn}
 use Rattle.demands.specs.Demands.{contentIn, reportFor}
 use Rattle.demands.specs.Rules.{reported, TooFew, under1, under2, ShortOfPlaces, PlacesExactly}
@@ -40,13 +42,13 @@ tells-28 (over m N) e =
     let z : N ≡ 0 = ap (λ (t : Told). t .config .0) same in
     rw (k, z)
 
-pub places-exactly : (S : Settings) {kept : ℕ} → Keeps (S .rule) kept → {text : List ℕ} (m : Meets text) → Allowed (keeping kept S) → (rs : List Reply)
-    → PlacesExactly S m rs
-places-exactly S {kept} r {text} m a rs = record { only = only; when = when }
+pub places-exactly : (S : Settings) {kept : ℕ} → Keeps (S .rule) kept → {text : List ℕ} (m : Meets text) → Allowed (keeping kept S) → {h : Handed} → BegunFor S text h → (rs : List Reply)
+    → PlacesExactly S m h rs
+places-exactly S {kept} r {text} m a {h} b rs = record { only = only; when = when }
   where
-    only : reported S text rs ≡ Is (plain 28) → ShortOfPlaces S m rs
+    only : reported text h rs ≡ Is (plain 28) → ShortOfPlaces S m rs
     only e =
-        let d = demand2 S (in-use (S .address)) r m a rs in
+        let d = demand2 S (in-use (S .address)) r m a rs b in
         let c : Ends28 (keeping kept S) (contentIn (inUse (S .address)) m) rs = course-28 (d .goes) (tells-28 (d .now) (sym (d .tells) ∙ e)) in
         let p = short-passes (targetIn m) kept (c .said .read) (c .first) in
         record {
@@ -61,11 +63,11 @@ places-exactly S {kept} r {text} m a rs = record { only = only; when = when }
           few = is-few r (p .1);
         }
 
-    when : ShortOfPlaces S m rs → reported S text rs ≡ Is (plain 28)
+    when : ShortOfPlaces S m rs → reported text h rs ≡ Is (plain 28)
     when s =
         let w : Said = record { captured = s .captured; read = s .read; busy = []; last = 0; banks = 0 } in
         let f = passes-short (targetIn m) kept (s .read)
         (record { counted = s .counted; same = s .same; young = s .young; kind = s .kind; places = omega arith }) (few-is r (s .few)) in
-        let d = demand2 S (in-use (S .address)) r m a rs in
+        let d = demand2 S (in-use (S .address)) r m a rs b in
         let o = d .only (over 28 0) _ (judged _ (s .left) 28 0 (s .came) (unfit w 28 0 f)) in
         d .tells ∙ ap (λ (x : Now). reportFor x) (sym (o .0))

@@ -11,9 +11,12 @@ use Rattle.counts.specs.declared.ConfigId.{ConfigId}
 use Rattle.counts.specs.Counts.{configId}
 use Rattle.line.specs.declared.Line.{Line}
 use Rattle.cuts.specs.Lines.{linesOf}
-use Rattle.summary.specs.declared.FileAnswer.the-variants.{Accepted}
+use Rattle.summary.specs.declared.Refusal.{Refusal}
+use Rattle.summary.specs.declared.FileAnswer.{FileAnswer}
+use Rattle.summary.specs.declared.FileAnswer.the-variants.{Accepted, Refused}
+use Rattle.summary.specs.Answers.{noSummary}
 use Rattle.image.specs.Says.{summaryOf}
-use Rattle.image.specs.Check.{checkOf}
+use Rattle.image.specs.Check.{answerOf, checkedAs, checkOf}
 use Rattle.image.specs.Meets.{Meets, SummarySays}
 use Rattle.image.proofs.Holds.{Sound}
 use Rattle.image.proofs.WalkSays.{lineSays, saysOf}
@@ -47,11 +50,20 @@ ids-sound ids zero f = refl
 ids-sound [] (suc k) f = refl
 ids-sound (i ∷ is) (suc k) f = rw (le-leb (i .0) 15 (f 0 (omega arith))) (ids-sound is k (λ N h. f (suc N) (omega arith)))
 
+-- a refused check's summary is of zeros
+pub refused-summary : (text : List ℕ) (r : Refusal) → checkOf text .answer ≡ Refused r → checkOf text .summary ≡ noSummary
+unfolding checkOf checkedAs
+refused-summary text r = by (answerOf text)
+  where
+    by : (a : FileAnswer) → checkedAs text a .answer ≡ Refused r → checkedAs text a .summary ≡ noSummary
+    by Accepted e = let z : _≡_ {A = ℕ} 0 1 = cc in absurd (let y : ⊥ = omega arith in y)
+    by (Refused q) e = refl
+
 module _ (text : List ℕ) (taken : checkOf text .answer ≡ Accepted) where
   abbrev file : Summary
   file = checkOf text .summary
 
-  file-sound : fileSound file ≡ true
+  pub file-sound : fileSound file ≡ true
   unfolding fileSound fileTests all
   file-sound =
       let f : Sound file = sound text taken in

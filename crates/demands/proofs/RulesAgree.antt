@@ -28,9 +28,9 @@ use Rattle.session.specs.Reports.{reportOf}
 use Rattle.session.specs.Sound.{knownRule, settingTests, allowedOf}
 use Rattle.session.specs.Begin.{freshOf, refusedOf, answeredOf, beginOf}
 use Rattle.session.specs.Reply.{stageOf, replyOf}
-use Rattle.demands.specs.Runs.{after}
+use Rattle.demands.specs.Runs.{atOnce, sent, after}
 use Rattle.demands.specs.Demands.{contentIn, reportFor}
-use Rattle.demands.specs.Rules.{out, reported, Demanded, withRule, SameUnderBoth, RulesAgree}
+use Rattle.demands.specs.Rules.{reported, Demanded, withRule, under, SameUnderBoth, RulesAgree}
 use Rattle.session.proofs.Laws.{begin-answered, begin-not}
 use Rattle.demands.proofs.SettingsSay.{allowed-is, refused-sends}
 use Rattle.demands.proofs.SessionTheorem.{session-theorem}
@@ -60,19 +60,19 @@ module _ (S : Settings) (text : List ℕ) (rs : List Reply) where
       }
 
   abbrev Agree : Type 0
-  Agree = SameUnderBoth S text rs ⊎ (reported S2 text rs ≡ Is (plain 28))
+  Agree = SameUnderBoth S text rs ⊎ (reported text (under S text rs 2) rs ≡ Is (plain 28))
 
-  by-course : (m : Meets text) (d : Demanded (inUse (S .address)) S2 2 m rs) → Demanded (inUse (S .address)) S1 0 m rs
-      → Course (keeping 0 S1) (contentIn (inUse (S .address)) m) rs (d .demand2 .now) (out S2 text rs) ⊎ (d .demand2 .now ≡ over 28 0) → Agree
+  by-course : (m : Meets text) (d : Demanded (inUse (S .address)) S2 2 m (under S text rs 2) rs) → Demanded (inUse (S .address)) S1 0 m (under S text rs 1) rs
+      → Course (keeping 0 S1) (contentIn (inUse (S .address)) m) rs (d .demand2 .now) (sent text (under S text rs 2) rs) ⊎ (d .demand2 .now ≡ over 28 0) → Agree
   by-course m d2 d1 (inl c) =
-      let o = d1 .demand2 .only (d2 .demand2 .now) (out S2 text rs) c in
+      let o = d1 .demand2 .only (d2 .demand2 .now) (sent text (under S text rs 2) rs) c in
       inl (record { requests = o .1; report = d2 .demand2 .tells ∙ (ap (λ (x : Now). reportFor x) (o .0) ∙ sym (d1 .demand2 .tells)) })
   by-course m d2 d1 (inr f) = inr (d2 .demand2 .tells ∙ ap (λ (x : Now). reportFor x) f)
 
   accepted-agree : (m : Meets text) → allowedOf S2 ≡ true → Agree
   accepted-agree m e =
-      let d2 = session-theorem S2 m rs .underRule2 refl (allowed-is S2 e 2) in
-      let d1 = session-theorem S1 m rs .underRule1 refl (allowed-is S1 (same-allowed ∙ e) 0) in
+      let d2 = session-theorem S2 m atOnce rs .underRule2 refl (allowed-is S2 e 2) in
+      let d1 = session-theorem S1 m atOnce rs .underRule1 refl (allowed-is S1 (same-allowed ∙ e) 0) in
       by-course m d2 d1 (course-with-fewer (keeping 2 S2) 0 (omega arith) (contentIn (inUse (S .address)) m) (d2 .demand2 .goes))
 
   agree : Agree
@@ -90,7 +90,7 @@ module _ (S : Settings) (text : List ℕ) (rs : List Reply) where
   pub rules-agree : RulesAgree S text rs
   rules-agree = record { agree = agree; passes = by agree }
     where
-      by : Agree → reported S2 text rs ≡ Is (plain 0) → SameUnderBoth S text rs × (reported S1 text rs ≡ Is (plain 0))
+      by : Agree → reported text (under S text rs 2) rs ≡ Is (plain 0) → SameUnderBoth S text rs × (reported text (under S text rs 1) rs ≡ Is (plain 0))
       by (inl same) e = (same, sym (same .report) ∙ e)
       by (inr f) e =
           let z : Is (plain 28) ≡ Is (plain 0) = sym f ∙ e in

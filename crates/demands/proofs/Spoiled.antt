@@ -1,4 +1,4 @@
--- The tests of a held state fail exactly where one of the document's conditions holds. Assumes nothing.
+-- The tests of a summary and of a held state fail exactly where one of the document's conditions holds. Assumes nothing.
 use Prim.Native.Nat.{ℕ, zero, suc, _≤_, _<_}
 use mathlib.Core.Path.{_≡_, sym}
 use mathlib.Core.Logic.{⊎-elim}
@@ -12,8 +12,9 @@ use Rattle.counts.specs.Counts.{configId, lineCount}
 use Rattle.counts.specs.declared.ConfigId.{ConfigId}
 use Rattle.promise.proofs.Basics.{split}
 use Rattle.session.specs.declared.Session.{Session}
+use Rattle.summary.specs.declared.Summary.{Summary}
 use Rattle.session.specs.Sound.{idsSound, fileTests, fileSound, mostSent, heldTests, heldSound, stateTests, soundOf}
-use Rattle.demands.specs.Exactly.{Spoiled, setting, configs, lines, line, config, polls, identifier, count}
+use Rattle.demands.specs.Exactly.{SummaryOut, configs, lines, identifier, Spoiled, setting, summary, line, config, polls, count}
 use Rattle.session.proofs.Tests.{all-not, fails, none}
 use Rattle.demands.proofs.SettingsOut.{out-refused, refused-out}
 
@@ -39,26 +40,40 @@ above-ids (i ∷ is) (suc k) e =
     (λ f. let r = above-ids is k (simp f at e) in (suc (r .0), omega (arith, r .1), r .2))
     (λ f. (0, omega arith, leb-false _ _ f))
 
+-- ---- a summary
+
+module _ (f : Summary) where
+  pub out-unsound : SummaryOut f → fileSound f ≡ false
+  unfolding fileSound fileTests
+  out-unsound (configs o) =
+      split (leb 1 (f .configs))
+      (λ e. split (leb (f .configs) 8) (λ g. absurd (o (leb-true _ _ e, leb-true _ _ g))) (λ g. sym (all-not (fileTests f) 1 g)))
+      (λ e. sym (all-not (fileTests f) 0 e))
+  out-unsound (lines o) = sym (all-not (fileTests f) 2 (ne-eqb _ _ o))
+  out-unsound (identifier N h g) = sym (all-not (fileTests f) 3 (ids-above _ _ N h g))
+
+  pub unsound-out : fileSound f ≡ false → SummaryOut f
+  unfolding fileSound fileTests
+  unsound-out e =
+      ⊎-elim (λ g. configs (λ p. omega (arith, leb-false 1 (f .configs) g)))
+      (λ r. ⊎-elim (λ g. configs (λ p. omega (arith, leb-false (f .configs) 8 g)))
+      (λ q. ⊎-elim (λ g. lines (eqb-false (f .lines) (lineCount (f .kind) (f .configs)) g))
+      (λ t. ⊎-elim (λ g. let a = above-ids (f .ids) (f .configs) g in identifier (a .0) (a .1) (a .2)) none (fails _ _ t))
+      (fails _ _ q))
+      (fails _ _ r))
+      (fails _ _ e)
+
 -- ---- the whole state
 
 module _ (s : Session) where
-  file-refused : fileSound (s .file) ≡ false → soundOf s ≡ false
-  unfolding soundOf stateTests
-  file-refused e = sym (all-not (stateTests s) 1 e)
-
   held-refused : heldSound s ≡ false → soundOf s ≡ false
   unfolding soundOf stateTests
   held-refused e = sym (all-not (stateTests s) 2 e)
 
   pub spoiled-refused : Spoiled s → soundOf s ≡ false
-  unfolding soundOf stateTests fileSound fileTests heldSound heldTests mostSent
+  unfolding soundOf stateTests heldSound heldTests mostSent
   spoiled-refused (setting o) = sym (all-not (stateTests s) 0 (out-refused (s .settings) o))
-  spoiled-refused (configs f) =
-      split (leb 1 (s .file .configs))
-      (λ e. split (leb (s .file .configs) 8) (λ g. absurd (f (leb-true _ _ e, leb-true _ _ g)))
-      (λ g. file-refused (sym (all-not (fileTests (s .file)) 1 g))))
-      (λ e. file-refused (sym (all-not (fileTests (s .file)) 0 e)))
-  spoiled-refused (lines f) = file-refused (sym (all-not (fileTests (s .file)) 2 (ne-eqb _ _ f)))
+  spoiled-refused (summary o) = sym (all-not (stateTests s) 1 (out-unsound (s .file) o))
   spoiled-refused (line f) =
       split (leb 5 (s .position .line .0))
       (λ e. split (leb (s .position .line .0) (s .file .lines)) (λ g. absurd (f (leb-true _ _ e, leb-true _ _ g)))
@@ -68,19 +83,7 @@ module _ (s : Session) where
       held-refused (sym (all-not (heldTests s) 2 (le-ltb (s .position .config .0) (s .file .configs) (not-under f))))
   spoiled-refused (polls f) =
       held-refused (sym (all-not (heldTests s) 3 (le-ltb (s .position .polls) (s .settings .limit) (not-under f))))
-  spoiled-refused (identifier N h g) = file-refused (sym (all-not (fileTests (s .file)) 3 (ids-above _ _ N h g)))
   spoiled-refused (count h) = held-refused (sym (all-not (heldTests s) 4 (lt-leb (s .sent) (mostSent s) h)))
-
-  file-spoiled : fileSound (s .file) ≡ false → Spoiled s
-  unfolding fileSound fileTests
-  file-spoiled e =
-      ⊎-elim (λ f. configs (λ p. omega (arith, leb-false 1 (s .file .configs) f)))
-      (λ r. ⊎-elim (λ f. configs (λ p. omega (arith, leb-false (s .file .configs) 8 f)))
-      (λ q. ⊎-elim (λ f. lines (eqb-false (s .file .lines) (lineCount (s .file .kind) (s .file .configs)) f))
-      (λ t. ⊎-elim (λ f. let a = above-ids (s .file .ids) (s .file .configs) f in identifier (a .0) (a .1) (a .2)) none (fails _ _ t))
-      (fails _ _ q))
-      (fails _ _ r))
-      (fails _ _ e)
 
   held-spoiled : heldSound s ≡ false → Spoiled s
   unfolding heldSound heldTests mostSent
@@ -99,5 +102,5 @@ module _ (s : Session) where
   unfolding soundOf stateTests
   refused-spoiled e =
       ⊎-elim (λ f. setting (refused-out (s .settings) f))
-      (λ r. ⊎-elim file-spoiled (λ q. ⊎-elim held-spoiled none (fails _ _ q)) (fails _ _ r))
+      (λ r. ⊎-elim (λ f. summary (unsound-out (s .file) f)) (λ q. ⊎-elim held-spoiled none (fails _ _ q)) (fails _ _ r))
       (fails _ _ e)

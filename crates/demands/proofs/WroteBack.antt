@@ -18,11 +18,11 @@ use Rattle.guide.proofs.CourseIsGuide.{bare-append}
 use Rattle.guide.proofs.StepOneClears.{writes-back}
 use Rattle.session.specs.declared.Settings.{Settings}
 use Rattle.session.specs.Terms.{keeping}
-use Rattle.session.specs.Begin.{beginOf}
-use Rattle.demands.specs.Runs.{sent}
+use Rattle.session.specs.declared.Handed.{Handed}
+use Rattle.demands.specs.Runs.{BegunFor, sent}
 use Rattle.demands.specs.Headline.{Allowed, Keeps}
 use Rattle.demands.specs.Asked.{WroteBack}
-use Rattle.demands.proofs.Guided.{guided}
+use Rattle.demands.proofs.Guided.{begun-is, guided}
 use Rattle.demands.proofs.Demand2.{premises}
 
 -- a plan that asks puts its request out, whatever comes
@@ -54,12 +54,13 @@ module _ (address : ℕ) (rest : Plan) (w : ℕ) where
       let asked : bare (asksOf leads2) ≡ pointTo address 0xA2 0x00 ∷ readData address ∷ [] = asks-are leads2 in
       (next .0, ap bare (leads-requests leads2 h) ∙ (bare-append (asksOf leads2) (requests (write third from4) left) ∙ rw (asked, next .1)))
 
-pub wrote-back : (S : Settings) {kept : ℕ} → Keeps (S .rule) kept → {text : List ℕ} → Meets text → Allowed (keeping kept S) → (rs : List Reply)
-    → WroteBack (keeping kept S) rs (sent text (beginOf S text) rs)
+pub wrote-back : (S : Settings) {kept : ℕ} → Keeps (S .rule) kept → {text : List ℕ} → Meets text → Allowed (keeping kept S) → {h : Handed} → BegunFor S text h → (rs : List Reply)
+    → WroteBack (keeping kept S) rs (sent text h rs)
 unfolding WroteBack guideFor guide
-wrote-back S {kept} r {text} m a rs wanted w left small h =
+wrote-back S {kept} r {text} m a b rs wanted w left small h =
     let T = keeping kept S in
     let rest = step2 T (checkOf text .summary) (lines (T .address) 5 (writeLinesOf text) (behind T (checkOf text .summary))) in
-    let b = step1-writes (T .address) rest w rs left h in
+    let x = step1-writes (T .address) rest w rs left h in
     let begun = ap (λ x. bare (requests (cond x (step1 (T .address) rest) rest) rs)) wanted in
-    (third (T .address) rest w, b .0, guided (premises S r m a) rs .sameRequests ∙ (begun ∙ b .1), writes-back (T .address) w small)
+    let started = ap (λ (h : Handed). sent text h rs) (begun-is (premises S r m a) b) in
+    (third (T .address) rest w, x .0, started ∙ (guided (premises S r m a) rs .sameRequests ∙ (begun ∙ x .1)), writes-back (T .address) w small)

@@ -12,9 +12,10 @@ use Rattle.guide.specs.Requests.{pointTo, readData, readBlock}
 use Rattle.guide.specs.Wire.{burnTo, asTheyStand}
 use Rattle.guide.specs.Plan.{Reply}
 use Rattle.session.specs.declared.Settings.{Settings}
+use Rattle.session.specs.declared.Handed.{Handed}
 use Rattle.session.specs.Terms.{keeping}
 use Rattle.demands.specs.Headline.{Allowed, Keeps}
-use Rattle.demands.specs.Rules.{out, SessionHeadline, Demanded}
+use Rattle.demands.specs.Rules.{SessionHeadline, Demanded}
 use Rattle.demands.specs.Asked.{writes2, asks}
 
 -- ---- a request for a device: its address stands first, and in a read one more stands third; a write ends with its own PEC, so that a device
@@ -24,15 +25,15 @@ pub record GoesTo (address : ℕ) (q : Request) : Type 0 where
   pub third : q .reads ≡ true → getD (q .bytes) 2 0 ≡ address + 1
   pub closed : q .reads ≡ false → pec (take (q .used) (q .bytes)) ≡ 0
 
--- of any settings, text and replies: every request is for the device in use, so none burns a device at another address
-pub record ToTheAddress (S : Settings) (text : List ℕ) (rs : List Reply) : Type 0 where
-  pub every : (q : Request) → List·Memᴰ q (out S text rs) → GoesTo (S .address) q
-  pub nowhere : (other : ℕ) → List·Memᴰ (burnTo other) (out S text rs) → other ≡ S .address
+-- of what was put out: every request is for the device in use, so none burns a device at another address
+pub record ToTheAddress (address : ℕ) (out : List Request) : Type 0 where
+  pub every : (q : Request) → List·Memᴰ q out → GoesTo address q
+  pub nowhere : (other : ℕ) → List·Memᴰ (burnTo other) out → other ≡ address
 
 -- ---- at C0 the headline and demands 2 and 3 hold with the lines as they stand and the burn C0 E7 08 00 DA
-pub record AtC0 (S : Settings) (text : List ℕ) (rs : List Reply) : Type 0 where
-  pub headline : SessionHeadline asTheyStand S text rs
-  pub demanded : (m : Meets text) (kept : ℕ) → Keeps (S .rule) kept → Allowed (keeping kept S) → Demanded asTheyStand S kept m rs
+pub record AtC0 (S : Settings) (text : List ℕ) (h : Handed) (rs : List Reply) : Type 0 where
+  pub headline : SessionHeadline asTheyStand S text h rs
+  pub demanded : (m : Meets text) (kept : ℕ) → Keeps (S .rule) kept → Allowed (keeping kept S) → Demanded asTheyStand S kept m h rs
 
 -- ---- elsewhere, by bytes
 pub record Elsewhere : Type 0 where

@@ -24,7 +24,6 @@ use Rattle.session.specs.declared.Answer.the-variants.{BadState}
 use Rattle.session.specs.declared.Report.{Report}
 use Rattle.session.specs.declared.Report.the-variants.{Waiting, Is}
 use Rattle.session.specs.Reports.{reportOf}
-use Rattle.session.specs.Begin.{beginOf}
 use Rattle.demands.specs.Headline.{linesOut, Answered, targetIn, Headline}
 use Rattle.demands.specs.Runs.{sent, after}
 
@@ -88,8 +87,8 @@ pub record OfBytes (r : Reply) : Type 0 where
   pub bytes : (i : ℕ) → getD (r .bytes) i 0 < 256
 
 -- ---- not empty: there are replies with which the session ends DONE with the burn put out
-pub record CanEnd (S : Settings) (text : List ℕ) : Type 0 where
+pub record CanEnd (S : Settings) (text : List ℕ) (h : Handed) : Type 0 where
   pub replies : List Reply
   pub possible : (r : Reply) → List·Memᴰ r replies → OfBytes r
-  pub done : reportOf (after text (beginOf S text) replies .answer) ≡ reportFor (over 0 0)
-  pub burned : List·Memᴰ (burnTo (S .address)) (sent text (beginOf S text) replies)
+  pub done : reportOf (after text h replies .answer) ≡ reportFor (over 0 0)
+  pub burned : List·Memᴰ (burnTo (S .address)) (sent text h replies)

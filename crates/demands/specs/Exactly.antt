@@ -1,18 +1,18 @@
--- When 15 is given, when 14 is, and what a verdict leaves (document 01, "The session"), said on the values that are held and
--- without the tests of Sound.antt. No promise cites this page: proofs/ shows each of these. Assumes nothing.
+-- When a reply is 15, and what a verdict leaves (document 01, "The session"), said on the values that are held and without the tests of
+-- Sound.antt. No promise cites this page: proofs/ shows each of these. Assumes nothing.
 use Prim.Native.Nat.{ℕ, _+_, _*_, _≤_, _<_}
 use mathlib.Core.Path.{_≡_}
 use mathlib.Core.List.{List, [], _∷_, List·Memᴰ}
 use mathlib.Core.Bool.{true, false}
 use lib.ListN.{getD}
 use Rattle.counts.specs.declared.LineNumber.{LineNumber}
-use Rattle.counts.specs.Counts.{lineNumber, linePlace, configNumber, configId, lineCount}
+use Rattle.counts.specs.Counts.{lineNumber, configId, lineCount}
 use Rattle.line.specs.declared.Line.{Line}
 use Rattle.line.specs.declared.NextLine.the-variants.{Took}
 use Rattle.line.specs.Reading.{nextLine}
 use Rattle.summary.specs.declared.Told.{Told}
-use Rattle.image.specs.FileTable.{Given}
-use Rattle.summary.specs.Answers.{told, plain}
+use Rattle.summary.specs.declared.Summary.{Summary}
+use Rattle.summary.specs.Answers.{plain}
 use Rattle.summary.specs.Burn.{isBurn}
 use Rattle.bus.specs.declared.Request.{Request}
 use Rattle.bus.specs.Bus.{codes}
@@ -33,7 +33,6 @@ use Rattle.session.specs.declared.Report.the-variants.{Is}
 use Rattle.session.specs.Stages.{withRevision}
 use Rattle.session.specs.Reports.{reportOf}
 use Rattle.session.specs.Reply.{replyOf}
-use Rattle.session.specs.Begin.{beginOf}
 use Rattle.demands.specs.Headline.{Keeps}
 
 -- a request of zeros, written out
@@ -50,23 +49,27 @@ pub data SettingOut (S : Settings) : Type 0 where
   rule : (S .rule ≡ 1 → ⊥) → (S .rule ≡ 2 → ⊥) → SettingOut S
   address : ((bits : ℕ) → 0x08 ≤ bits → bits ≤ 0x77 → S .address ≡ 2 * bits → ⊥) → SettingOut S
 
+-- ---- a summary
+
+-- k is not 1 to 8, n is not 12 + s x k, or an identifier under k is above 15; nothing else of a summary is looked at
+pub data SummaryOut (f : Summary) : Type 0 where
+  configs : ((1 ≤ f .configs) × (f .configs ≤ 8) → ⊥) → SummaryOut f
+  lines : (f .lines ≡ lineCount (f .kind) (f .configs) → ⊥) → SummaryOut f
+  identifier : (N : ℕ) → N < f .configs → 15 < getD (f .ids) N (configId 0) .0 → SummaryOut f
+
 -- ---- 15, before the reply is looked at
 
 pub data Spoiled (s : Session) : Type 0 where
   -- a held setting is not allowed
   setting : SettingOut (s .settings) → Spoiled s
-  -- k is not 1 to 8
-  configs : ((1 ≤ s .file .configs) × (s .file .configs ≤ 8) → ⊥) → Spoiled s
-  -- n is not 12 + s x k
-  lines : (s .file .lines ≡ lineCount (s .file .kind) (s .file .configs) → ⊥) → Spoiled s
+  -- the held summary is out of its bounds
+  summary : SummaryOut (s .file) → Spoiled s
   -- the line in hand is not 5 to n
   line : ((5 ≤ s .position .line .0) × (s .position .line .0 ≤ s .file .lines) → ⊥) → Spoiled s
   -- the configuration in hand is not under k
   config : (s .position .config .0 < s .file .configs → ⊥) → Spoiled s
   -- the polls used are not under the limit
   polls : (s .position .polls < s .settings .limit → ⊥) → Spoiled s
-  -- an identifier is above 15
-  identifier : (N : ℕ) → N < s .file .configs → 15 < getD (s .file .ids) N (configId 0) .0 → Spoiled s
   -- the request count is over n + poll limit + 3 x k + 9
   count : s .file .lines + s .settings .limit + 3 * s .file .configs + 9 < s .sent → Spoiled s
 
@@ -121,32 +124,6 @@ module _ (text : List ℕ) (s : Session) (kind : ℕ) (bs : List ℕ) where
 
   unfoldable pub CarriesOn : Type 0
   CarriesOn = Carried s handed
-
--- ---- of a beginning
-
--- a refused begin hands back an ended state with its verdict, count 0, no burn, and a request of zeros; an accepted one the first
--- request, count 1
-pub record Begun (h : Handed) : Type 0 where
-  pub refused : (v : Verdict) → h .answer ≡ Over v
-      → (h .session .stage ≡ Ended v) × (h .session .sent ≡ 0) × (h .session .burned ≡ false) × (h .request ≡ zeros)
-  pub accepted : h .answer ≡ Next → (h .session .sent ≡ 1) × (h .session .hand ≡ h .request) × (h .session .burned ≡ false)
-  -- 15 is not given
-  pub never : h .answer ≡ BadState → ⊥
-
-module _ (S : Settings) (text : List ℕ) where
-  -- 14 exactly where a setting is out of its range, whatever the file; with line 0, place 0 and N 0
-  pub record FourteenExactly : Type 0 where
-    pub only : (t : Told) → reportOf (beginOf S text .answer) ≡ Is t → t .number ≡ 14 → SettingOut S
-    pub when : SettingOut S → reportOf (beginOf S text .answer) ≡ Is (plain 14)
-
-  -- where the settings are in their ranges: a refused file's own number, line and place are reported, exactly where they are its
-  pub record FileExactly (inside : SettingOut S → ⊥) : Type 0 where
-    pub only : (t : Told) → reportOf (beginOf S text .answer) ≡ Is t → Given text (t .number) (t .line .0) (t .place .0)
-    pub when : (number line place : ℕ) → 1 ≤ number → Given text number line place
-        → reportOf (beginOf S text .answer) ≡ Is (told number (lineNumber line) (linePlace place) (configNumber 0))
-
-  unfoldable pub BeginsSo : Type 0
-  BeginsSo = Begun (beginOf S text)
 
 -- ---- of any answer
 

@@ -4,5 +4,6 @@ pub mod Guided
 pub mod Demands
 pub mod Asked
 pub mod Exactly
+pub mod AtBegin
 pub mod Rules
 pub mod Addresses

@@ -6,7 +6,7 @@ use Prim.Native.Nat.{ℕ}
 use native.Mathlib.Omega.{arith}
 use Rattle.summary.specs.declared.Refusal.the-variants.{Line, Whole}
 use Rattle.guide.specs.declared.Verdict.{Verdict}
-use Rattle.guide.specs.declared.Verdict.the-variants.{Done, Setting, File, Mismatch, Halted}
+use Rattle.guide.specs.declared.Verdict.the-variants.{Done, Setting, File, Mismatch, Halted, State}
 use Rattle.guide.specs.Plan.{Reply, Asked, Plan, ask, done, requests, verdict}
 use Rattle.guide.specs.Statements.{Begins, Settled, OnlyMismatch}
 
@@ -31,3 +31,4 @@ only-mismatch (File (Line n fault)) h = refl
 only-mismatch (File (Whole w)) h = refl
 only-mismatch (Halted r) h = refl
 only-mismatch (Mismatch N) h = absurd (h refl)
+only-mismatch State h = refl

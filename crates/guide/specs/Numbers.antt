@@ -6,7 +6,7 @@ use Rattle.summary.specs.Answers.{told, plain, refusalTold}
 use Rattle.guide.specs.declared.Reason.{Reason}
 use Rattle.guide.specs.declared.Reason.the-variants.{Nack, Shape, Pec, Counter, Identity, Flag, Old, OtherKind, Places, Program, Banks}
 use Rattle.guide.specs.declared.Verdict.{Verdict}
-use Rattle.guide.specs.declared.Verdict.the-variants.{Done, Setting, File, Mismatch, Halted}
+use Rattle.guide.specs.declared.Verdict.the-variants.{Done, Setting, File, Mismatch, Halted, State}
 
 abbrev pub reasonNumber : Reason → ℕ
 reasonNumber Nack = 20
@@ -28,3 +28,4 @@ verdictTold Setting = plain 14
 verdictTold (File r) = refusalTold r
 verdictTold (Mismatch N) = told 31 (lineNumber 0) (linePlace 0) N
 verdictTold (Halted r) = plain (reasonNumber r)
+verdictTold State = plain 15

@@ -28,13 +28,14 @@ pub enum Reason {
     Banks,
 }
 
-// How a session can end: DONE, a refused beginning (14, or the file's refusal), 31 with its N, or 20 to 30.
+// How a session can end: DONE, a refused beginning (14, the file's refusal, or 15 for a summary), 31 with its N, or 20 to 30.
 pub enum Verdict {
     Done,
     Setting,
     File(Refusal),
     Mismatch(ConfigNumber),
     Halted(Reason),
+    State,
 }
 
 // What a file asks of the device that it is for: its kind, its identity and a place for each configuration.

@@ -41,6 +41,7 @@ impl Verdict {
                 told
             }
             Verdict::Halted(reason) => Told::plain(reason.number()),
+            Verdict::State => Told::plain(15),
         }
     }
 }

@@ -13,7 +13,8 @@ use Rattle.summary.specs.declared.FileAnswer.{FileAnswer}
 use Rattle.image.specs.Check.{checkOf}
 use Rattle.bus.specs.ReplyForm.{formOf}
 use Rattle.guide.specs.declared.Verdict.{Verdict}
-use Rattle.guide.specs.declared.Verdict.the-variants.{Setting}
+use Rattle.summary.specs.declared.Summary.{Summary}
+use Rattle.guide.specs.declared.Verdict.the-variants.{Setting, State}
 use Rattle.session.specs.declared.Settings.{Settings}
 use Rattle.session.specs.declared.Session.{Session}
 use Rattle.session.specs.declared.Awaited.{Awaited}
@@ -22,7 +23,7 @@ use Rattle.session.specs.Moves.{overOf, badOf}
 use Rattle.session.specs.Private.Ready.{Ready}
 use Rattle.session.specs.Sound.{settingTests, allowedOf, fileTests, fileSound, mostSent, heldTests, heldSound, stateTests, soundOf}
 use Rattle.session.specs.Reply.{repliedOf, stageOf, replyOf}
-use Rattle.session.specs.Begin.{refusedOf, answeredOf, checkedOf, beginOf}
+use Rattle.session.specs.Begin.{startOf, refusedOf, beginWith, answeredOf, checkedOf, beginOf}
 use Rattle.session.proofs.Tests.{all-at, chosen}
 
 lines-small : (kind : Kind) (k : ℕ) → k ≤ 8 → lineCount kind k ≤ 2916
@@ -55,6 +56,20 @@ module _ (text : List ℕ) (s : Session) (kind : ℕ) (bs : List ℕ) where
       → cond b (repliedOf text s g (formOf (s .hand) kind bs)) (badOf s) ≡ replyOf text s kind bs
   unfolding replyOf stageOf
   when-open g b e q = chosen (soundOf s) b _ _ q ∙ ap (stageOf text s kind bs) (sym e)
+
+-- a begin with a summary
+module _ (S : Settings) (f : Summary) where
+  pub begin-sound : allowedOf S ≡ true → fileSound f ≡ true → startOf S f ≡ beginWith S f
+  unfolding beginWith
+  begin-sound q p = rw (q, p)
+
+  pub begin-unsound : allowedOf S ≡ true → fileSound f ≡ false → refusedOf S State ≡ beginWith S f
+  unfolding beginWith
+  begin-unsound q p = rw (q, p)
+
+  pub begin-out : allowedOf S ≡ false → refusedOf S Setting ≡ beginWith S f
+  unfolding beginWith
+  begin-out q = rw q
 
 -- a begin, by what the file's check says
 module _ (S : Settings) (text : List ℕ) where

@@ -3,11 +3,12 @@
 use mathlib.Core.Path.{_≡_}
 use mathlib.Core.List.{List}
 use Prim.Native.Nat.{ℕ}
+use Rattle.summary.specs.declared.Summary.{Summary}
 use Rattle.session.specs.declared.Settings.{Settings}
 use Rattle.session.specs.declared.Session.{Session}
 use Rattle.session.specs.declared.Answer.{Answer}
 use Rattle.session.specs.Sound.{allowedOf}
-use Rattle.session.specs.Begin.{beginOf}
+use Rattle.session.specs.Begin.{beginWith, beginOf}
 use Rattle.session.specs.Reply.{replyOf}
 use Rattle.session.specs.Reports.{reportOf}
 use Rattle.promise.specs.One.{One}
@@ -15,6 +16,9 @@ use Rattle.promise.proofs.Equal.{one-answer}
 
 pub one-Settings-allowed : (self : Settings) → One (λ r. r ≡ allowedOf self)
 one-Settings-allowed self = one-answer _
+
+pub one-Settings-begin-with : (self : Settings) (file : Summary) → One (λ r. r ≡ beginWith self file)
+one-Settings-begin-with self file = one-answer _
 
 pub one-Settings-begin : (self : Settings) (text : List ℕ) → One (λ r. r ≡ beginOf self text)
 one-Settings-begin self text = one-answer _

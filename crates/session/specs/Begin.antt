@@ -1,4 +1,5 @@
--- The beginning (document 01, "The session"): settings, file, first request. Assumes nothing.
+-- The beginning (document 01, "The session"; document 02, R-3): settings, summary, first request; and the one operation that checks the
+-- file before it. Assumes nothing.
 use Prim.Native.Nat.{ℕ}
 use mathlib.Core.List.{List}
 use mathlib.Core.Bool.{false, cond}
@@ -12,7 +13,7 @@ use Rattle.summary.specs.Answers.{noSummary}
 use Rattle.image.specs.Check.{checkOf}
 use Rattle.bus.specs.Bus.{noRequest}
 use Rattle.guide.specs.declared.Verdict.{Verdict}
-use Rattle.guide.specs.declared.Verdict.the-variants.{Setting, File}
+use Rattle.guide.specs.declared.Verdict.the-variants.{Setting, File, State}
 use Rattle.guide.specs.declared.Words.{Words}
 use Rattle.guide.specs.Requests.{pointTo}
 use Rattle.session.specs.declared.Settings.{Settings}
@@ -22,7 +23,7 @@ use Rattle.session.specs.declared.Handed.{Handed}
 use Rattle.session.specs.declared.Stage.{Stage}
 use Rattle.session.specs.declared.Stage.the-variants.{Open, Ended}
 use Rattle.session.specs.declared.Awaited.the-variants.{CaptureAt, CounterAt}
-use Rattle.session.specs.Sound.{allowedOf}
+use Rattle.session.specs.Sound.{allowedOf, fileSound}
 use Rattle.session.specs.Moves.{addressOf, putOf, overOf}
 
 -- nothing read yet
@@ -48,13 +49,18 @@ startOf S f = firstOf (freshOf S f (Open CaptureAt) (newPosition firstLine (f .l
 unfoldable pub refusedOf : Settings → Verdict → Handed
 refusedOf S v = overOf (freshOf S noSummary (Ended v) (newPosition (lineNumber 0) 0)) v
 
+-- settings come first: 14; then 15, where the summary's k, n or identifiers are out of their bounds
+unfoldable pub beginWith : Settings → Summary → Handed
+beginWith S f = cond (allowedOf S) (cond (fileSound f) (startOf S f) (refusedOf S State)) (refusedOf S Setting)
+
+-- ---- document 01's one operation: a check, and a beginning with its summary; a refused file has its own number, behind 14
+
 unfoldable pub answeredOf : Settings → Summary → FileAnswer → Handed
-answeredOf S f Accepted = startOf S f
+answeredOf S f Accepted = beginWith S f
 answeredOf S f (Refused r) = refusedOf S (File r)
 
 unfoldable pub checkedOf : Settings → Checked → Handed
 checkedOf S k = answeredOf S (k .summary) (k .answer)
 
--- settings come first: 14
 unfoldable pub beginOf : Settings → List ℕ → Handed
 beginOf S text = cond (allowedOf S) (checkedOf S (checkOf text)) (refusedOf S Setting)

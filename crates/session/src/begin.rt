@@ -1,20 +1,20 @@
-// The beginning: one operation checks the settings, checks the file and begins.
+// The beginning, with the summary that a check of the file gave (document 02, R-3).
 use crate::Awaited;
 use crate::Handed;
 use crate::Position;
 use crate::Session;
 use crate::Settings;
 use crate::Stage;
+use crate::held::file_sound;
 use bus::Bus;
 use counts::ConfigNumber;
 use counts::LineNumber;
 use guide::Verdict;
 use guide::Words;
-use summary::FileAnswer;
 use summary::Summary;
 ghost use mathlib.Core.Path.{_≡_};
 ghost use Prim.Native.Nat.{_<_};
-ghost use Rattle.session.specs.Begin.{newPosition, freshOf, firstOf, startOf, refusedOf, beginOf};
+ghost use Rattle.session.specs.Begin.{newPosition, freshOf, firstOf, startOf, refusedOf, beginWith};
 
 impl Position {
     // With nothing read.
@@ -75,24 +75,22 @@ impl Settings {
     }
 
     // An ended state, of which only the settings and the verdict say anything.
-    fn refused(self, verdict: Verdict) -> Handed
+    pub(crate) fn refused(self, verdict: Verdict) -> Handed
         ensures { λ r. ⌜ r ≡ refusedOf self verdict ⌝ }
     {
         let position = Position::new(LineNumber(0), 0);
         Session::fresh(self, Summary::none(), Stage::Ended(verdict), position).over(verdict)
     }
 
-    // Settings come first: a bad setting with a bad file is 14.
-    pub fn begin(self, text: &[u8]) -> Handed
-        ensures { λ r. ⌜ r ≡ beginOf self (now (text .entry)) ⌝ }
+    // Settings come first: a bad setting with a bad summary is 14. Of a summary nothing but k, n and the identifiers under k is looked at.
+    pub fn begin_with(self, file: Summary) -> Handed
+        ensures { λ r. ⌜ r ≡ beginWith self file ⌝ }
     {
         if self.allowed() {
-            let checked = image::check(text);
-            let answer = checked.answer;
-            let summary = checked.summary;
-            match answer {
-                FileAnswer::Accepted => self.start(summary),
-                FileAnswer::Refused(refusal) => self.refused(Verdict::File(refusal)),
+            if file_sound(file) {
+                self.start(file)
+            } else {
+                self.refused(Verdict::State)
             }
         } else {
             self.refused(Verdict::Setting)

@@ -72,7 +72,8 @@ fn ids_sound(ids: [ConfigId; 8], k: u8) -> bool
     true
 }
 
-fn file_sound(file: Summary) -> bool
+// What a beginning asks of a summary, and a reply of the one that is held.
+pub(crate) fn file_sound(file: Summary) -> bool
     ensures { λ r. ⌜ r ≡ fileSound file ⌝ }
 {
     let k = file.configs;

@@ -1,5 +1,6 @@
 // The session (document 01, "The session"): a value whose calls hand the next value back with its request.
 mod answers;
+mod at_once;
 mod begin;
 mod exits;
 mod held;

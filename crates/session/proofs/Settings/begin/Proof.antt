@@ -11,7 +11,7 @@ returns : tie.Need-returns
 unfolding answeredOf
 returns c =
     let b = c .before .before .before .before in
-    c .start .ensures
+    c .begin-with .ensures
     ∙ begin-answered _ _ _ _ (b .check .ensures) (via (b .before .before .allowed .ensures) (b .before .if1 .taken)) (c .before .enum-told .given .1)
 
 returns-2 : tie.Need-returns-2
