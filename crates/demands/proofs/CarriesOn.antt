@@ -17,13 +17,14 @@ use Rattle.session.specs.Sound.{soundOf}
 use Rattle.session.specs.Reply.{repliedOf, stageOf, replyOf}
 use Rattle.demands.specs.Exactly.{Carried, CarriesOn}
 use Rattle.demands.proofs.Cases.{next-bad, next-over}
-use Rattle.demands.proofs.EveryStep.{Kept, step-every}
+use Rattle.demands.proofs.EveryStep.{Kept, Step, step-every}
 use Rattle.demands.proofs.SettingsSay.{held-rule}
 
 module _ (s : Session) where
-  put-carried : (g : Awaited) (t : Session) → Kept s t → (next : Awaited) (q : Request) → Carried s (putOf t next q)
+  put-carried : {text : List ℕ} {word : ℕ} (g : Awaited) (t : Session) → Kept s t → (next : Awaited) (q : Request) → Step text s word g t next q
+      → Carried s (putOf t next q)
   unfolding putOf withSent withStage
-  put-carried g t k next q =
+  put-carried g t k next q x =
       record {
         counts = λ e. (ap (λ (n : ℕ). n + 1) (k .sent), refl);
         rests = λ f. absurd (f refl);

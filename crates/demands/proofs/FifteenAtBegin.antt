@@ -1,13 +1,12 @@
 -- A beginning with a summary is 15 exactly where the settings are in their ranges and the summary is out of its bounds. Assumes nothing.
-use mathlib.Core.Path.{_≡_, refl, sym, ap, _∙_}
-use mathlib.Core.Bool.{true, false, true≢false}
+use mathlib.Core.Path.{_≡_, refl, sym, _∙_}
+use mathlib.Core.Bool.{true, true≢false}
 use native.Mathlib.Omega.{arith}
 use Rattle.promise.proofs.Basics.{split}
 use Rattle.summary.specs.declared.Told.{Told}
 use Rattle.summary.specs.declared.Summary.{Summary}
 use Rattle.guide.specs.declared.Verdict.the-variants.{Setting}
 use Rattle.session.specs.declared.Settings.{Settings}
-use Rattle.session.specs.declared.Answer.the-variants.{Next}
 use Rattle.session.specs.declared.Report.the-variants.{Is}
 use Rattle.session.specs.Reports.{reportOf}
 use Rattle.session.specs.Moves.{overOf}

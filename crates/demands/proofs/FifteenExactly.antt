@@ -25,7 +25,7 @@ use Rattle.demands.specs.Exactly.{zeros, Due, Unfit, Fifteen, before, du
 use Rattle.demands.proofs.Cases.{next-bad, next-over, over-bad}
 use Rattle.session.proofs.Laws.{when-ended, when-open}
 use Rattle.demands.proofs.Spoiled.{spoiled-refused, refused-spoiled}
-use Rattle.demands.proofs.EveryStep.{Kept, step-every}
+use Rattle.demands.proofs.EveryStep.{Kept, Step, step-every}
 use Rattle.demands.proofs.Refusing.{due-bad}
 use Rattle.demands.proofs.SettingsSay.{held-rule}
 
@@ -36,9 +36,9 @@ module _ (text : List ℕ) (s : Session) (kind : ℕ) (bs : List ℕ) where
     leaves : h .answer ≡ BadState → (h .session ≡ s) × (h .request ≡ zeros)
     ends : (v : Verdict) → h .answer ≡ Over v → (h .session .stage ≡ Ended v) × (h .request ≡ zeros)
 
-  put-shown : (g : Awaited) (t : Session) → Kept s t → (next : Awaited) (q : Request) → Shown g (putOf t next q)
+  put-shown : {word : ℕ} (g : Awaited) (t : Session) → Kept s t → (next : Awaited) (q : Request) → Step text s word g t next q → Shown g (putOf t next q)
   unfolding putOf
-  put-shown g t k next q = record { only = λ e. next-bad e; leaves = λ e. next-bad e; ends = λ v e. next-over e }
+  put-shown g t k next q x = record { only = λ e. next-bad e; leaves = λ e. next-bad e; ends = λ v e. next-over e }
 
   end-shown : (g : Awaited) (v : Verdict) → Shown g (endOf s v)
   unfolding endOf withStage noRequest eight

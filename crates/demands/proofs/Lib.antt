@@ -31,6 +31,11 @@ pub mod EveryStep
 pub mod Refusing
 pub mod FifteenExactly
 pub mod CarriesOn
+pub mod PutsOut
+pub mod WhereLent
+pub mod StaysLent
+pub mod BurnLent
+pub mod WhateverIsLent
 pub mod BeginsSo
 pub mod FourteenExactly
 pub mod FifteenAtBegin

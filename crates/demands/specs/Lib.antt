@@ -7,3 +7,4 @@ pub mod Exactly
 pub mod AtBegin
 pub mod Rules
 pub mod Addresses
+pub mod Lent

@@ -32,7 +32,7 @@ use Rattle.guide.specs.Terms.{Terms}
 -- ---- the burn's bytes, request by request
 
 -- spelled as the burn exactly where it is marked as the burn
-abbrev Agrees : Request → ℕ → Asked → Type 0
+abbrev pub Agrees : Request → ℕ → Asked → Type 0
 Agrees burn n q = sameBytes (q .request .bytes) (burn .bytes) ≡ isBurnMark n (q .mark)
 
 agree : (burn : Request) (n : ℕ) {most : ℕ} {p : Plan} → Every (Agrees burn n) most p → (rs : List Reply)
@@ -51,7 +51,7 @@ not-burn : (restore : ℕ) → reserved restore ≡ false → eqb restore 0xE7 �
 unfolding reserved isIn
 not-burn restore e = split (eqb restore 0xE7) (λ f. absurd (true≢false (rw (eqb-true restore 0xE7 f) at e))) (λ f. f)
 
-others-agree : (n : ℕ) (T : Terms) (file : Summary) → reserved (T .restore) ≡ false → (q : Request) → Other T file q
+pub others-agree : (n : ℕ) (T : Terms) (file : Summary) → reserved (T .restore) ≡ false → (q : Request) → Other T file q
     → Agrees (burning (T .address)) n (asked other q)
 unfolding sameBytes isBurnMark eight writeOf framed readOf
 others-agree n T file e _ (point low high) = rw (eq-eqb (T .address) (T .address) refl)
