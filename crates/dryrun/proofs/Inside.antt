@@ -1,4 +1,4 @@
--- The file of an input that is whole lies within it. Assumes nothing.
+-- The file of an input that is whole lies within it, and so does the one in part. Assumes nothing.
 use mathlib.Core.Path.{_≡_, refl, sym}
 use mathlib.Core.Bool.{Bool, true, false, cond}
 use mathlib.Core.List.{List}
@@ -9,10 +9,12 @@ use lib.ListN.{length}
 use borrow.Author.Tests.{ltb-false}
 use Rattle.promise.proofs.Basics.{split}
 use Rattle.dryrun.specs.declared.Header.{Header}
+use Rattle.dryrun.specs.declared.Part.{Part}
+use Rattle.dryrun.specs.declared.Part.the-variants as part
 use Rattle.dryrun.specs.declared.Input.{Input}
 use Rattle.dryrun.specs.declared.Input.the-variants.{CutShort, TooLong, Whole}
 use Rattle.tape.specs.Replies.{wholeReplies}
-use Rattle.dryrun.specs.Parts.{fileAt, fileLength, headerOf, inputOf}
+use Rattle.dryrun.specs.Parts.{lengthAt, fileAt, fileLength, headerOf, frontOf, inputOf}
 
 -- a test that an input which is whole has passed
 must-not : {A : Type 0} (t : Bool) (x y : Input) (h : Header) → cond t x y ≡ Whole h → (x ≡ Whole h → A) → (t ≡ false → y ≡ Whole h → A) → A
@@ -38,3 +40,22 @@ header-within s h e =
     let b : headerOf s (fileLength s) ≡ h = cc in
     rw (sym b) (omega arith, ltb-false (length s) (fileAt + fileLength s) t3))
     (λ t5. cut h (rw t5 at e4))))))
+
+pub front-within : (s : List ℕ) (behind : ℕ) → frontOf s ≡ part.Whole behind → (4 ≤ behind) × (behind ≤ length s)
+unfolding frontOf
+front-within s behind e =
+    not-whole (ltb (length s) 4) part.CutShort _ e (λ f. cut-front f) (λ t1 e1.
+    not-whole (ltb 65600 (lengthAt s 0)) part.TooLong _ e1 (λ f. long-front f) (λ t2 e2.
+    not-whole (ltb (length s) (4 + lengthAt s 0)) part.CutShort _ e2 (λ f. cut-front f) (λ t3 e3.
+    let same : 4 + lengthAt s 0 ≡ behind = cc in
+    (omega (arith, same), omega (arith, same, ltb-false (length s) (4 + lengthAt s 0) t3)))))
+  where
+    not-whole : {A : Type 0} (t : Bool) (x y : Part) → cond t x y ≡ part.Whole behind → (x ≡ part.Whole behind → A) → (t ≡ false → y ≡ part.Whole behind → A) → A
+    not-whole true x y e stop go = stop e
+    not-whole false x y e stop go = go refl e
+
+    cut-front : {A : Type 0} → part.CutShort ≡ part.Whole behind → A
+    cut-front e = let y : _≡_ {A = ℕ} 0 1 = cc in absurd (let no : ⊥ = omega arith in no)
+
+    long-front : {A : Type 0} → part.TooLong ≡ part.Whole behind → A
+    long-front e = let y : _≡_ {A = ℕ} 0 1 = cc in absurd (let no : ⊥ = omega arith in no)

@@ -9,11 +9,12 @@ use lib.ListN.{length, length-append}
 use borrow.Author.Tests.{ltb-true}
 use Rattle.promise.proofs.Basics.{split}
 use Rattle.bus.specs.declared.Request.{Request}
+use Rattle.summary.specs.declared.Told.{Told}
 use Rattle.session.specs.declared.Report.{Report}
 use Rattle.session.specs.declared.Report.the-variants.{Waiting, Is}
 use Rattle.text.specs.Text.{bytesOf}
 use Rattle.text.proofs.Laws.{digits-length, decimal-length}
-use Rattle.dryrun.specs.Lines.{verb, atMost8, usedHex, requestLine, reportLine, mark, countLine}
+use Rattle.dryrun.specs.Lines.{verb, atMost8, usedHex, requestLine, checkedLine, reportLine, mark, countLine}
 
 pub verb-length : (reads : Bool) → length (verb reads) ≤ 6
 unfolding verb bytesOf
@@ -33,6 +34,11 @@ pub request-length : (q : Request) → length (requestLine q) ≤ 32
 unfolding requestLine bytesOf
 request-length q =
     simp length-append (omega (arith, verb-length (q .reads), used-length (q .bytes) (atMost8 (q .used)), at-most-8 (q .used)))
+
+pub checked-length : (t : Told) → length (checkedLine t) ≤ 112
+unfolding checkedLine bytesOf
+checked-length t =
+    simp length-append (omega (arith, decimal-length (t .number), decimal-length (t .line .0), decimal-length (t .place .0)))
 
 pub report-length : (r : Report) → length (reportLine r) ≤ 112
 unfolding reportLine bytesOf

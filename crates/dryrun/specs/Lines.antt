@@ -5,6 +5,7 @@ use mathlib.Core.List.{List, [], _++_}
 use lib.Dec.{ltb}
 use lib.ListN.{getD}
 use Rattle.bus.specs.declared.Request.{Request}
+use Rattle.summary.specs.declared.Told.{Told}
 use Rattle.session.specs.declared.Report.{Report}
 use Rattle.session.specs.declared.Report.the-variants.{Waiting, Is}
 use Rattle.text.specs.Text.{bytesOf, lineEnd, hex, decimal}
@@ -24,6 +25,11 @@ usedHex bs (suc i) = usedHex bs i ++ hex 2 (getD bs i 0)
 
 unfoldable pub requestLine : Request → List ℕ
 requestLine q = verb (q .reads) ++ usedHex (q .bytes) (atMost8 (q .used)) ++ lineEnd
+
+-- checked NUMBER line LINE at PLACE
+unfoldable pub checkedLine : Told → List ℕ
+checkedLine t =
+    bytesOf "checked " ++ decimal (t .number) ++ bytesOf " line " ++ decimal (t .line .0) ++ bytesOf " at " ++ decimal (t .place .0) ++ lineEnd
 
 unfoldable pub reportLine : Report → List ℕ
 reportLine Waiting = bytesOf "waiting" ++ lineEnd

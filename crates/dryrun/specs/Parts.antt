@@ -9,6 +9,8 @@ use Rattle.session.specs.declared.Settings.{Settings}
 use Rattle.tape.specs.Replies.{byte, wholeReplies}
 use Rattle.dryrun.specs.declared.Header.{Header}
 use Rattle.dryrun.specs.declared.Input.{Input}
+use Rattle.dryrun.specs.declared.Part.{Part}
+use Rattle.dryrun.specs.declared.Part.the-variants as part
 use Rattle.dryrun.specs.declared.Input.the-variants.{CutShort, TooLong, Whole}
 
 -- two bytes, lowest first
@@ -19,8 +21,12 @@ pair a b = a + 256 * b
 abbrev pub fileAt : ℕ
 fileAt = 10
 
-unfoldable pub fileLength : List ℕ → ℕ
-fileLength s = pair (byte s 6) (byte s 7) + 65536 * pair (byte s 8) (byte s 9)
+-- the four bytes at a place
+unfoldable pub lengthAt : List ℕ → ℕ → ℕ
+lengthAt s at = pair (byte s at) (byte s (at + 1)) + 65536 * pair (byte s (at + 2)) (byte s (at + 3))
+
+abbrev pub fileLength : List ℕ → ℕ
+fileLength s = lengthAt s 6
 
 -- 0 is no, anything else yes
 unfoldable pub settingsOf : List ℕ → Settings
@@ -29,6 +35,13 @@ settingsOf s =
 
 unfoldable pub headerOf : List ℕ → ℕ → Header
 headerOf s file = record { settings = settingsOf s; behind = fileAt + file }
+
+-- in front of a dry run's input, a file with its length: the place behind it
+unfoldable pub frontOf : List ℕ → Part
+frontOf s =
+    cond (ltb (length s) 4) part.CutShort
+    (cond (ltb 65600 (lengthAt s 0)) part.TooLong
+    (cond (ltb (length s) (4 + lengthAt s 0)) part.CutShort (part.Whole (4 + lengthAt s 0))))
 
 -- room for a file of 65,600 bytes and 200,000 bytes of replies; what is missing at the end is cut short
 unfoldable pub inputOf : List ℕ → Input

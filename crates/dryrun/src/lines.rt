@@ -1,6 +1,7 @@
 // The lines that a dry run writes.
 use bus::Request;
 use session::Report;
+use summary::Told;
 use text::put_bytes;
 use text::put_decimal;
 use text::put_hex2;
@@ -8,7 +9,7 @@ ghost use mathlib.Core.Path.{_≡_};
 ghost use Prim.Native.Nat.{_+_, _≤_};
 ghost use lib.ListN.{length};
 ghost use Rattle.text.specs.Text.{Puts};
-ghost use Rattle.dryrun.specs.Lines.{verb, atMost8, usedHex, requestLine, reportLine, mark, countLine};
+ghost use Rattle.dryrun.specs.Lines.{verb, atMost8, usedHex, requestLine, checkedLine, reportLine, mark, countLine};
 
 // Whether it reads, in a word.
 fn put_verb(out: &mut [u8], at: usize, reads: bool) -> usize
@@ -50,6 +51,19 @@ pub fn put_request(out: &mut [u8; 32], q: Request) -> usize
     let a = put_verb(out, 0, q.reads);
     let b = put_used(out, a, bytes, at_most_8(q.used));
     put_bytes(out, b, b"\n")
+}
+
+// What a check told.
+pub fn put_checked(out: &mut [u8; 112], told: Told) -> usize
+    ensures { λ r. ⌜ Puts (now (out .entry)) 0 (checkedLine told) (now (out .exit)) r ⌝ }
+{
+    let a = put_bytes(out, 0, b"checked ");
+    let b = put_decimal(out, a, told.number as u64);
+    let c = put_bytes(out, b, b" line ");
+    let d = put_decimal(out, c, told.line.0 as u64);
+    let e = put_bytes(out, d, b" at ");
+    let f = put_decimal(out, e, told.place.0 as u64);
+    put_bytes(out, f, b"\n")
 }
 
 // How the session stands.

@@ -6,9 +6,9 @@ use crate::Input;
 use session::Settings;
 use tape::replies_whole;
 ghost use mathlib.Core.Path.{_≡_};
-ghost use Prim.Native.Nat.{_≤_};
+ghost use Prim.Native.Nat.{_+_, _≤_};
 ghost use lib.ListN.{length};
-ghost use Rattle.dryrun.specs.Parts.{pair, fileAt, fileLength, headerOf, inputOf};
+ghost use Rattle.dryrun.specs.Parts.{pair, lengthAt, fileAt, headerOf, inputOf};
 
 // Two bytes, lowest first.
 fn two(a: u8, b: u8) -> u16
@@ -17,12 +17,13 @@ fn two(a: u8, b: u8) -> u16
     a as u16 + 256 * (b as u16)
 }
 
-fn file_length(input: &[u8]) -> usize
-    requires { ⌜ fileAt ≤ length (now input) ⌝ }
-    ensures { λ r. ⌜ r ≡ fileLength (now (input .entry)) ⌝ }
+// The four bytes at a place.
+pub(crate) fn length_at(input: &[u8], at: usize) -> usize
+    requires { ⌜ at + 4 ≤ length (now input) ⌝ }
+    ensures { λ r. ⌜ r ≡ lengthAt (now (input .entry)) at ⌝ }
 {
-    let low = two(input[6], input[7]);
-    let high = two(input[8], input[9]);
+    let low = two(input[at], input[at + 1]);
+    let high = two(input[at + 2], input[at + 3]);
     low as usize + 65536 * (high as usize)
 }
 
@@ -50,7 +51,7 @@ pub fn parse(input: &[u8]) -> Input
     if n < FILE_AT {
         return Input::CutShort;
     }
-    let file = file_length(input);
+    let file = length_at(input, 6);
     if 65600 < file {
         return Input::TooLong;
     }

@@ -11,17 +11,17 @@ returns c = rw (lt-ltb _ _ (c .if1 .taken))
 
 returns-2 : tie.Need-returns-2
 unfolding inputOf
-returns-2 c = rw (le-ltb _ _ (c .before .before .if1 .left), ← c .before .file-length .ensures, lt-ltb _ _ (c .if2 .taken))
+returns-2 c = rw (le-ltb _ _ (c .before .before .if1 .left), ← c .before .length-at .ensures, lt-ltb _ _ (c .if2 .taken))
 
 returns-3 : tie.Need-returns-3
 unfolding inputOf
-returns-3 c = rw (le-ltb _ _ (c .before .before .before .if1 .left), ← c .before .before .file-length .ensures, le-ltb _ _ (c .before .if2 .left), lt-ltb _ _ (c .if3 .taken))
+returns-3 c = rw (le-ltb _ _ (c .before .before .before .if1 .left), ← c .before .before .length-at .ensures, le-ltb _ _ (c .before .if2 .left), lt-ltb _ _ (c .if3 .taken))
 
 returns-4 : tie.Need-returns-4
 unfolding inputOf
 returns-4 c = rw (
   le-ltb _ _ (c .before .before .before .before .if1 .left),
-  ← c .before .before .before .file-length .ensures,
+  ← c .before .before .before .length-at .ensures,
   le-ltb _ _ (c .before .before .if2 .left),
   le-ltb _ _ (c .before .if3 .left),
   lt-ltb _ _ (c .if4 .taken),
@@ -31,7 +31,7 @@ returns-5 : tie.Need-returns-5
 unfolding inputOf
 returns-5 c = rw (
   le-ltb _ _ (c .before .before .before .before .before .before .before .if1 .left),
-  ← c .before .before .before .before .before .before .file-length .ensures,
+  ← c .before .before .before .before .before .before .length-at .ensures,
   le-ltb _ _ (c .before .before .before .before .before .if2 .left),
   le-ltb _ _ (c .before .before .before .before .if3 .left),
   le-ltb _ _ (c .before .before .before .if4 .left),
@@ -44,7 +44,7 @@ returns-6 : tie.Need-returns-6
 unfolding inputOf
 returns-6 c = rw (
   le-ltb _ _ (c .before .before .before .before .before .before .if1 .left),
-  ← c .before .before .before .before .before .file-length .ensures,
+  ← c .before .before .before .before .before .length-at .ensures,
   le-ltb _ _ (c .before .before .before .before .if2 .left),
   le-ltb _ _ (c .before .before .before .if3 .left),
   le-ltb _ _ (c .before .before .if4 .left),
