@@ -5,6 +5,7 @@ use mathlib.Core.List.{List}
 use Prim.Native.Nat.{ℕ}
 use Rattle.pec.specs.Lent.{runWith}
 use Rattle.measured.specs.Replies.{sentAfter}
+use Rattle.measured.specs.Begin.{sentAtBegin}
 use Rattle.promise.specs.One.{One}
 use Rattle.promise.proofs.Equal.{one-answer}
 
@@ -13,3 +14,6 @@ one-measured-run-with table register bytes = one-answer _
 
 pub one-measured-replies : (input : List ℕ) (replies : ℕ) → One (λ r. r ≡ sentAfter input replies)
 one-measured-replies input replies = one-answer _
+
+pub one-measured-begin : (lines configs line5 : ℕ) (ids : List ℕ) → One (λ r. r ≡ sentAtBegin lines configs line5 ids)
+one-measured-begin lines configs line5 ids = one-answer _

@@ -1,11 +1,16 @@
 // Entries for bench/ alone: functions of the delivery that C or Rust could not call by themselves. Nothing delivered uses them.
+use counts::ConfigId;
+use counts::Kind;
 use dryrun::FILE_AT;
 use dryrun::Input;
 use session::Session;
+use session::Settings;
+use summary::Summary;
 use tape::Found;
 ghost use mathlib.Core.Path.{_≡_};
 ghost use Rattle.pec.specs.Lent.{runWith};
 ghost use Rattle.measured.specs.Replies.{fedOf, sentAfter};
+ghost use Rattle.measured.specs.Begin.{summaryWith, sentAtBegin};
 
 // The register after some bytes, by a table that the caller has made once.
 #[no_mangle]
@@ -56,4 +61,45 @@ pub extern "C" fn measured_replies(input: &[u8], replies: u32) -> u32
             s.sent
         }
     }
+}
+
+// The summary of a production file with this n and k, this place of line 5 and these identifiers.
+fn summary_with(lines: u32, configs: u8, line5: usize, ids: &[u8; 8]) -> Summary
+    ensures { λ r. ⌜ r ≡ summaryWith lines configs line5 (now (ids .entry)) ⌝ }
+{
+    Summary {
+        kind: Kind::Production,
+        identity: 0x49D28100,
+        lines: lines,
+        configs: configs,
+        line5: line5,
+        ids: [
+            ConfigId(ids[0]),
+            ConfigId(ids[1]),
+            ConfigId(ids[2]),
+            ConfigId(ids[3]),
+            ConfigId(ids[4]),
+            ConfigId(ids[5]),
+            ConfigId(ids[6]),
+            ConfigId(ids[7]),
+        ],
+        crcs: [0xE0CD9882; 8],
+    }
+}
+
+// The requests that a begin with such a summary puts out: 1, or 0 where it is refused.
+#[no_mangle]
+pub extern "C" fn measured_begin(lines: u32, configs: u8, line5: usize, ids: &[u8; 8]) -> u32
+    ensures { λ r. ⌜ r ≡ sentAtBegin lines configs line5 (now (ids .entry)) ⌝ }
+{
+    let settings = Settings {
+        wanted: false,
+        limit: 1,
+        restore: 0xF2,
+        rule: 1,
+        address: 0xC2,
+    };
+    let begun = settings.begin_with(summary_with(lines, configs, line5, ids));
+    let s = begun.session;
+    s.sent
 }
