@@ -60,12 +60,20 @@ impl<'a> Host<'a> {
         Ok(reply.bytes)
     }
 
-    /// Puts out a write. "A write's PEC covers C0, command, data", C0 being the address in use.
-    /// "a write's reply has none" (no bytes).
     pub fn write(&mut self, command: u8, data: &[u8]) -> Result<(), Stop> {
+        self.put_out_write(command, data);
+        self.write_reply()
+    }
+
+    /// "A write's PEC covers C0, command, data", C0 being the address in use.
+    pub fn put_out_write(&mut self, command: u8, data: &[u8]) {
         let mut request = [&[self.address, command], data].concat();
         request.push(pec(&request));
         self.put_out("write", &request);
+    }
+
+    /// "a write's reply has none" (no bytes).
+    pub fn write_reply(&mut self) -> Result<(), Stop> {
         self.reply_of(0).map(|_| ())
     }
 
@@ -86,9 +94,18 @@ impl<'a> Host<'a> {
         Ok(&bytes[..4])
     }
 
-    /// Reads AD or AE: the block count 04, four bytes and PEC.
+    /// Reads AD or AE.
     pub fn read_block(&mut self, command: u8) -> Result<&'a [u8], Stop> {
+        self.put_out_block_read(command);
+        self.block_reply(command)
+    }
+
+    pub fn put_out_block_read(&mut self, command: u8) {
         self.put_out_read(command, 6);
+    }
+
+    /// The block count 04, four bytes and PEC.
+    pub fn block_reply(&mut self, command: u8) -> Result<&'a [u8], Stop> {
         let bytes = self.reply_of(6)?;
         end_if(bytes[0] != 4, SHAPE)?;
         self.check_reply_pec(command, bytes)?;

@@ -42,6 +42,23 @@ pub fn lines_of(text: &[u8]) -> Vec<&[u8]> {
     lines
 }
 
+/// The place, in bytes from 0, at which the line of a number counted from 1 begins.
+pub fn place_of_line(text: &[u8], number: usize) -> usize {
+    text.split_inclusive(|&byte| byte == b'\n')
+        .take(number - 1)
+        .map(<[u8]>::len)
+        .sum()
+}
+
+/// The line that begins at this place, without its end, and the place behind it. At or past the
+/// text's end there is none.
+pub fn line_at(text: &[u8], place: usize) -> Option<(&[u8], usize)> {
+    let rest = text.get(place..)?;
+    let with_its_end = rest.split_inclusive(|&byte| byte == b'\n').next()?;
+    let line = lines_of(with_its_end).into_iter().next()?;
+    Some((line, place + with_its_end.len()))
+}
+
 /// The value of a digit 0-9, A-F or a-f.
 fn digit_value(byte: u8) -> Option<u8> {
     match byte {

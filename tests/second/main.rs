@@ -3,6 +3,7 @@
 //! - `second show`: print a file's contents as the printing program does.
 //! - `second number`: print a file's refusal number, 0 if it is accepted.
 //! - `second replay`: a dry run of the session against replies given in advance.
+//! - `second socket`: the same of a session that begins with a summary and is lent a text.
 
 use std::env;
 use std::io::{self, Read, Write};
@@ -24,8 +25,9 @@ fn main() -> ExitCode {
         Some("show") => second::show,
         Some("number") => number,
         Some("replay") => second::replay,
+        Some("socket") => second::socket,
         _ => {
-            eprintln!("usage: second show|number|replay");
+            eprintln!("usage: second show|number|replay|socket");
             return ExitCode::from(2);
         }
     };

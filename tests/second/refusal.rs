@@ -22,6 +22,13 @@ pub struct Refusal {
     pub place: usize,
 }
 
+/// What stands in a refusal's place where there is none.
+pub const ACCEPTED: Refusal = Refusal {
+    number: 0,
+    line: 0,
+    place: 0,
+};
+
 /// A refusal that no line has.
 pub fn refuse_whole(number: u8) -> Refusal {
     Refusal {

@@ -2,11 +2,12 @@
 
 use crate::bus::{Host, Reply};
 use crate::bytes::lowest_first;
-use crate::file::Image;
-use crate::session::{begin, run, Settings};
+use crate::refusal::Refusal;
+use crate::session::{begin_with_file, run, Settings};
+use crate::summary::Summary;
 use crate::verdict::{Stop, DONE};
 
-/// How many bytes the settings take, and the file's length behind them.
+/// How many bytes the settings take, and a file's length.
 const SETTINGS_BYTES: usize = 6;
 const LENGTH_BYTES: usize = 4;
 const ROOM_FOR_FILE: usize = 65_600;
@@ -15,9 +16,10 @@ const CUT_SHORT: &str = "cut short\n";
 const TOO_LONG: &str = "too long\n";
 
 /// What a dry run's input holds.
-struct DryRun<'a> {
-    settings: Settings,
-    file: &'a [u8],
+pub struct DryRun<'a> {
+    pub settings: Settings,
+    /// What every call is lent.
+    lent: &'a [u8],
     replies: Vec<Reply<'a>>,
 }
 
@@ -27,23 +29,28 @@ fn split_at_if(bytes: &[u8], count: usize) -> Option<(&[u8], &[u8])> {
 }
 
 /// Takes a dry run's input apart, or gives the only line to print.
-fn parse_dry_run(input: &[u8]) -> Result<DryRun<'_>, &'static str> {
+pub fn parse_dry_run(input: &[u8]) -> Result<DryRun<'_>, &'static str> {
     let (settings, rest) = split_at_if(input, SETTINGS_BYTES).ok_or(CUT_SHORT)?;
-    let (file_length, rest) = split_at_if(rest, LENGTH_BYTES).ok_or(CUT_SHORT)?;
-    let file_length = lowest_first(file_length) as usize;
-    if file_length > ROOM_FOR_FILE {
-        return Err(TOO_LONG);
-    }
-    let (file, reply_bytes) = split_at_if(rest, file_length).ok_or(CUT_SHORT)?;
+    let (lent, reply_bytes) = parse_file(rest)?;
     if reply_bytes.len() > ROOM_FOR_REPLIES {
         return Err(TOO_LONG);
     }
     let replies = parse_replies(reply_bytes).ok_or(CUT_SHORT)?;
     Ok(DryRun {
         settings: settings_of(settings),
-        file,
+        lent,
         replies,
     })
+}
+
+/// A file behind its length, and what stands behind it; or the only line to print.
+pub fn parse_file(input: &[u8]) -> Result<(&[u8], &[u8]), &'static str> {
+    let (length, rest) = split_at_if(input, LENGTH_BYTES).ok_or(CUT_SHORT)?;
+    let length = lowest_first(length) as usize;
+    if length > ROOM_FOR_FILE {
+        return Err(TOO_LONG);
+    }
+    split_at_if(rest, length).ok_or(CUT_SHORT)
 }
 
 /// The settings, in the order in which their bytes stand.
@@ -71,23 +78,27 @@ fn parse_replies(mut rest: &[u8]) -> Option<Vec<Reply<'_>>> {
 
 pub fn replay(input: &[u8]) -> String {
     match parse_dry_run(input) {
-        Ok(dry_run) => replay_parsed(&dry_run),
+        Ok(dry_run) => {
+            let begun = begin_with_file(&dry_run.settings, dry_run.lent);
+            session_of(&dry_run, begun)
+        }
         Err(only_line) => only_line.to_string(),
     }
 }
 
-fn replay_parsed(dry_run: &DryRun) -> String {
-    match begin(&dry_run.settings, dry_run.file) {
-        Ok(image) => replay_accepted(dry_run, &image),
+/// What is printed of a session that began with this summary, or whose begin was refused.
+pub fn session_of(dry_run: &DryRun, begun: Result<Summary, Refusal>) -> String {
+    match begun {
+        Ok(summary) => begun_session(dry_run, &summary),
         Err(refusal) => {
             verdict_line(refusal.number, 0, refusal.line, refusal.place) + &count_line(0, false)
         }
     }
 }
 
-fn replay_accepted(dry_run: &DryRun, image: &Image) -> String {
+fn begun_session(dry_run: &DryRun, summary: &Summary) -> String {
     let mut host = Host::new(dry_run.settings.address, &dry_run.replies);
-    let how_it_stands = match run(&mut host, &dry_run.settings, image) {
+    let how_it_stands = match run(&mut host, &dry_run.settings, summary, dry_run.lent) {
         Ok(()) => verdict_line(DONE, 0, 0, 0),
         Err(Stop::Verdict { number, config }) => verdict_line(number, config, 0, 0),
         Err(Stop::Waiting) => "waiting\n".to_string(),

@@ -14,7 +14,11 @@ pub const PROGRAM: u8 = 29;
 pub const BANKS: u8 = 30;
 pub const MISMATCH: u8 = 31;
 
-/// Why the procedure went no further: no reply was left, or a verdict from 20 to 31 was given.
+/// 15, at a begin with a summary, or as the answer to a reply.
+pub const STATE: u8 = 15;
+
+/// Why the procedure went no further: no reply was left, or a verdict from 20 to 31 was given. 15 of
+/// a reply is no verdict: it is told as one where no reply was left behind it.
 pub enum Stop {
     Waiting,
     Verdict { number: u8, config: usize },
