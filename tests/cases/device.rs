@@ -14,8 +14,10 @@ pub const PRODUCTION_FLAG: u32 = 0xFFFE_0001;
 pub const SETTINGS_BYTES: usize = 6;
 pub const RULE_PLACE: usize = 4;
 pub const ADDRESS_PLACE: usize = 5;
+/// The length that stands before a file.
+pub const LENGTH_BYTES: usize = 4;
 /// The settings and the file's length, which the file stands behind.
-pub const HEADER_BYTES: usize = SETTINGS_BYTES + 4;
+pub const HEADER_BYTES: usize = SETTINGS_BYTES + LENGTH_BYTES;
 
 /// What stands before the file of a dry run. `step_1` 0 is "not wanted".
 #[derive(Clone, Copy)]
@@ -229,10 +231,14 @@ pub fn right_banks(k: usize) -> u32 {
 /// The bytes of a dry run's input.
 pub fn input(settings: Settings, file: &[u8], replies: &[Reply]) -> Vec<u8> {
     let mut bytes = settings.bytes().to_vec();
-    bytes.extend((file.len() as u32).to_le_bytes());
-    bytes.extend_from_slice(file);
+    bytes.extend(behind_its_length(file));
     bytes.extend(reply_bytes(replies));
     bytes
+}
+
+/// A file behind its length.
+pub fn behind_its_length(file: &[u8]) -> Vec<u8> {
+    [&(file.len() as u32).to_le_bytes()[..], file].concat()
 }
 
 pub fn reply_bytes(replies: &[Reply]) -> Vec<u8> {

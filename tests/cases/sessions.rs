@@ -5,14 +5,14 @@
 //! `waiting`, `cutshort`, `toolong`, or `open` where the answer is not known from the making of the
 //! case.
 
-mod addresses;
+pub(crate) mod addresses;
 mod done;
 mod going_on;
-mod inputs;
+pub(crate) mod inputs;
 mod judged;
 mod random;
-mod refused;
-mod reply_faults;
+pub(crate) mod refused;
+pub(crate) mod reply_faults;
 mod written;
 
 use crate::device::{input, replies_of, Device, Reply, Settings, Step, RULES};
@@ -32,10 +32,7 @@ pub struct Sessions {
 
 /// All case sessions.
 pub fn sessions(seed: u64) -> Vec<Case> {
-    let mut sessions = Sessions {
-        rng: Rng::new(seed),
-        list: List::default(),
-    };
+    let mut sessions = Sessions::new(seed);
     sessions.done();
     sessions.refused_settings();
     sessions.refused_files();
@@ -46,10 +43,11 @@ pub fn sessions(seed: u64) -> Vec<Case> {
     sessions.input_cases();
     sessions.random_sessions();
     sessions.addresses();
-    sessions.list.cases()
+    sessions.cases()
 }
 
 /// A session that would be done, before a case spoils it.
+#[derive(Clone)]
 pub struct Session {
     pub draft: Draft,
     pub settings: Settings,
@@ -65,7 +63,7 @@ impl Session {
     }
 
     /// With a device at this address (document 02, R-2).
-    fn at(mut self, address: u8) -> Session {
+    pub fn at(mut self, address: u8) -> Session {
         self.settings.address = address;
         self
     }
@@ -80,6 +78,18 @@ impl Session {
 }
 
 impl Sessions {
+    /// A generator with an empty list.
+    pub fn new(seed: u64) -> Sessions {
+        Sessions {
+            rng: Rng::new(seed),
+            list: List::default(),
+        }
+    }
+
+    pub fn cases(self) -> Vec<Case> {
+        self.list.cases()
+    }
+
     /// A session under either house rule, at C0 as on the page.
     pub fn session(&mut self, kind: Kind, k: usize) -> Session {
         let rule = self.rng.pick(&RULES);
@@ -87,7 +97,7 @@ impl Sessions {
     }
 
     /// A session under this house rule (document 02, R-13), at C0.
-    fn session_under(&mut self, rule: u8, kind: Kind, k: usize) -> Session {
+    pub fn session_under(&mut self, rule: u8, kind: Kind, k: usize) -> Session {
         let mut draft = Draft::random(&mut self.rng, kind, k);
         draft.set(3, header(0x01, &self.rng.bytes(3)));
         draft.set(4, header(0x02, &self.rng.bytes(1)));
@@ -147,7 +157,7 @@ impl Sessions {
     }
 
     /// What stands after the reply that ends a session: the rest, nothing, or anything.
-    fn with_any_tail(&mut self, replies: &mut Vec<Reply>, ending: usize) {
+    pub fn with_any_tail(&mut self, replies: &mut Vec<Reply>, ending: usize) {
         match self.rng.below(3) {
             0 => replies.truncate(ending + 1),
             1 => {}

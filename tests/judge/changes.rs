@@ -1,10 +1,13 @@
-//! Random changes of a case: of a file's text, and of a dry run's input.
+//! Random changes of a case: of a file's text, and of a dry run's input, also of one that begins with
+//! a summary.
 
 use cases::line::{line, pec};
 use cases::random::Rng;
 use cases::random_address;
 use cases::text::capital;
 use cases::{ADDRESS_PLACE, HEADER_BYTES, RULE_PLACE, SETTINGS_BYTES};
+
+use crate::inputs::{behind_its_length, first_replies, split_file, Inputs};
 
 /// No text gets longer: far more than a file may have, and less than the C side has room for.
 const LONGEST: usize = 200_000;
@@ -217,13 +220,8 @@ pub fn changed_input(rng: &mut Rng, input: &[u8]) -> Vec<u8> {
     if input.len() <= HEADER_BYTES {
         return input.to_vec();
     }
-    let (settings, length) = input[..HEADER_BYTES].split_at(SETTINGS_BYTES);
-    let length = length
-        .iter()
-        .rev()
-        .fold(0, |n, &byte| n << 8 | usize::from(byte));
-    let behind = (HEADER_BYTES + length).min(input.len());
-    let (file, replies) = (&input[HEADER_BYTES..behind], &input[behind..]);
+    let (settings, rest) = input.split_at(SETTINGS_BYTES);
+    let (file, replies) = split_file(rest).unwrap_or((rest, &[]));
     let (mut settings, mut file, mut replies) =
         (settings.to_vec(), file.to_vec(), replies.to_vec());
     match rng.below(10) {
@@ -239,8 +237,39 @@ pub fn changed_input(rng: &mut Rng, input: &[u8]) -> Vec<u8> {
         4 => settings[ADDRESS_PLACE] = random_address(rng),
         _ => change_reply(rng, &mut replies),
     }
-    let length = (file.len() as u32).to_le_bytes();
-    [&settings[..], &length[..], &file[..], &replies[..]].concat()
+    [settings, behind_its_length(&file), replies].concat()
+}
+
+/// The input of a dry run that begins with a summary, with a change: of one of the two texts, so that
+/// they part, of a reply, which comes twice, or as any dry run's.
+pub fn changed_socket(rng: &mut Rng, input: &[u8]) -> Vec<u8> {
+    let (inputs, dry_run) = match (Inputs::of(input), split_file(input)) {
+        (Some(inputs), Some((_, dry_run))) => (inputs, dry_run),
+        _ => return input.to_vec(),
+    };
+    let (mut morning, mut lent) = (inputs.morning.to_vec(), inputs.lent.to_vec());
+    let mut replies = inputs.replies.to_vec();
+    match rng.below(8) {
+        0 => morning = changed_text(rng, &morning, &lent),
+        1 | 2 => lent = changed_text(rng, &lent, &morning),
+        3 => lent = morning.clone(),
+        4 => double_reply(rng, &mut replies),
+        _ => {
+            let changed = changed_input(rng, dry_run);
+            return [behind_its_length(&morning), changed].concat();
+        }
+    }
+    let dry_run = [inputs.settings, &behind_its_length(&lent), &replies].concat();
+    [behind_its_length(&morning), dry_run].concat()
+}
+
+/// One of the replies comes once more behind itself.
+fn double_reply(rng: &mut Rng, replies: &mut Vec<u8>) {
+    let count = rng.below(40);
+    let start = first_replies(replies, count).len();
+    let end = first_replies(replies, count + 1).len();
+    let reply = replies[start..end].to_vec();
+    replies.splice(end..end, reply);
 }
 
 /// A byte of the replies changed, or one more among them.

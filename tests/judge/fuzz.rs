@@ -1,5 +1,5 @@
-//! Compares `show`, `replay` and the two C entries with the second program on fresh random input
-//! until the time is up.
+//! Compares `show`, `replay`, `socket` and the two C entries with the second program on fresh random
+//! input until the time is up.
 //!
 //! The same seed gives the same inputs, as many of them as the time allows.
 
@@ -10,12 +10,14 @@ use std::time::{Duration, Instant};
 
 use cases::random::Rng;
 
-use crate::changes::{changed_input, changed_text};
+use crate::changes::{changed_input, changed_socket, changed_text};
 use crate::entries::Entries;
+use crate::printing::Printing;
 use crate::programs::Program;
 use crate::replay::REPLAY;
 use crate::seeded::told;
 use crate::show::SHOW;
+use crate::socket::SOCKET;
 use crate::tally::Tally;
 use crate::Judged;
 use crate::{pec, refusal};
@@ -29,6 +31,7 @@ struct Plan {
     entries: Program,
     show: Program,
     replay: Program,
+    socket: Program,
 }
 
 impl Plan {
@@ -42,6 +45,7 @@ impl Plan {
             entries: Program::of_entries()?,
             show: SHOW.program()?,
             replay: REPLAY.program()?,
+            socket: SOCKET.program()?,
         })
     }
 
@@ -126,24 +130,31 @@ fn files_by_show(plan: &Plan, shows: &Tally) -> io::Result<()> {
     Ok(())
 }
 
-/// The case sessions, one in three with a change. Each worker has its own.
-fn sessions_by_replay(plan: &Plan, replays: &Tally, worker: u64) -> io::Result<()> {
+/// Dry runs: the program, its cases, and how one of them is changed.
+struct DryRuns<'a> {
+    printing: Printing,
+    program: &'a Program,
+    changed: fn(&mut Rng, &[u8]) -> Vec<u8>,
+}
+
+/// The cases, one in three with a change. Each worker has its own.
+fn dry_runs(plan: &Plan, runs: &DryRuns, tally: &Tally, worker: u64) -> io::Result<()> {
     for round in 0.. {
         let seed = plan.seed_of(worker, round);
         let mut rng = Rng::new(seed);
-        let mut cases = cases::sessions(seed);
+        let mut cases = (runs.printing.cases)(seed);
         rng.shuffle(&mut cases);
         for made in &cases {
             if plan.over() {
                 return Ok(());
             }
             let case = if rng.once_in(3) {
-                made.changed(changed_input(&mut rng, &made.bytes))
+                made.changed((runs.changed)(&mut rng, &made.bytes))
             } else {
                 made.clone()
             };
-            let answers = REPLAY.answers(&plan.replay, &case);
-            replays.compare(&case.name, &case.bytes, answers)?;
+            let answers = runs.printing.answers(runs.program, &case);
+            tally.compare(&case.name, &case.bytes, answers)?;
         }
     }
     Ok(())
@@ -152,7 +163,7 @@ fn sessions_by_replay(plan: &Plan, replays: &Tally, worker: u64) -> io::Result<(
 // ---- The run --------------------------------------------------------------------------------
 
 /// The ways of comparing, and what is said of each at the end.
-const WAYS: [(&str, &str); 4] = [
+const WAYS: [(&str, &str); 5] = [
     (
         "files",
         "each by tehilgam_refusal of the delivered archive, all in one process",
@@ -166,19 +177,34 @@ const WAYS: [(&str, &str); 4] = [
         "replays",
         "each by a run of the program replay, byte for byte",
     ),
+    (
+        "sockets",
+        "each by a run of the program socket, byte for byte",
+    ),
 ];
 
 pub fn run(seconds: u64, seed: u64) -> Judged {
     println!("fuzz: seed {seed}, {seconds} s, {}", env::consts::ARCH);
     let plan = Plan::new(seconds, seed)?;
     let tallies = WAYS.map(|(name, _)| Tally::new(name, seed, KEPT_IN));
-    let [files, pecs, shows, replays] = &tallies;
+    let [files, pecs, shows, replays, sockets] = &tallies;
+    let replayed = DryRuns {
+        printing: REPLAY,
+        program: &plan.replay,
+        changed: changed_input,
+    };
+    let at_the_socket = DryRuns {
+        printing: SOCKET,
+        program: &plan.socket,
+        changed: changed_socket,
+    };
     let all_went_on = thread::scope(|scope| {
         let workers = [
             scope.spawn(|| told("fuzz", files_by_entries(&plan, files, pecs))),
             scope.spawn(|| told("fuzz", files_by_show(&plan, shows))),
-            scope.spawn(|| told("fuzz", sessions_by_replay(&plan, replays, 2))),
-            scope.spawn(|| told("fuzz", sessions_by_replay(&plan, replays, 3))),
+            scope.spawn(|| told("fuzz", dry_runs(&plan, &replayed, replays, 2))),
+            scope.spawn(|| told("fuzz", dry_runs(&plan, &replayed, replays, 3))),
+            scope.spawn(|| told("fuzz", dry_runs(&plan, &at_the_socket, sockets, 4))),
         ];
         say_how_far(&plan, &tallies, &workers);
         let results = workers.map(|worker| worker.join().expect("a worker"));

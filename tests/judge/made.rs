@@ -17,6 +17,7 @@ pub fn made(words: &[&str]) -> Option<Judged> {
     let done = match *words {
         ["files", seed, folder] => write_cases(&cases::files(number(seed)?), folder, "hex"),
         ["sessions", seed, folder] => write_cases(&cases::sessions(number(seed)?), folder, "bin"),
+        ["sockets", seed, folder] => write_cases(&cases::sockets(number(seed)?), folder, "bin"),
         ["example", kind, file] => write_example(kind_of(kind)?, Path::new(file)),
         ["accepted", kind, k, file] => write_accepted(kind_of(kind)?, k.parse().ok()?, file),
         ["example-session", file, out] => write_session(Path::new(file), Path::new(out)),

@@ -9,6 +9,7 @@ mod difference;
 mod entries;
 mod fuzz;
 mod identities;
+mod inputs;
 mod made;
 mod pec;
 mod printing;
@@ -18,6 +19,7 @@ mod replay;
 mod requests;
 mod seeded;
 mod show;
+mod socket;
 mod tally;
 
 use std::env;
@@ -25,14 +27,16 @@ use std::process::ExitCode;
 
 use replay::REPLAY;
 use show::SHOW;
+use socket::SOCKET;
 
 /// Whether none differed and enough was seen; or what is missing.
 pub type Judged = Result<bool, String>;
 
-const USAGE: &str = "usage: judge pec|refusal|show|replay [SEED]
+const USAGE: &str = "usage: judge pec|refusal|show|replay|socket [SEED]
        judge fuzz SECONDS SEED
        judge files SEED FOLDER
        judge sessions SEED FOLDER
+       judge sockets SEED FOLDER
        judge example production|legacy FILE
        judge accepted production|legacy K FILE
        judge example-session FILE.hex OUT.bin";
@@ -71,6 +75,7 @@ fn seeded(mode: &str) -> Option<fn(Option<u64>) -> Judged> {
         "refusal" => refusal::run,
         "show" => |seed| SHOW.run(seed),
         "replay" => |seed| REPLAY.run(seed),
+        "socket" => |seed| SOCKET.run(seed),
         _ => return None,
     })
 }

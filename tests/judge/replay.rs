@@ -94,7 +94,7 @@ fn by_address(case: &Case) -> bool {
 }
 
 /// By the one line that is neither a request nor the count.
-fn ending_of(printed: &str) -> Option<Ending> {
+pub fn ending_of(printed: &str) -> Option<Ending> {
     let beside = ["write ", "read ", "count "];
     let ends: Vec<&str> = printed
         .lines()

@@ -5,10 +5,13 @@ use cases::{Case, ADDRESS_PLACE};
 
 use crate::changes::decoded;
 
-/// The first request that is not for the address in the case's settings (document 02, R-2), or whose
-/// PEC is not its own.
+/// The first request that is not for the address in the settings of a dry run (document 02, R-2), or
+/// whose PEC is not its own.
 pub fn wrong_request(case: &Case, printed: &str) -> Option<String> {
-    let address = *case.bytes.get(ADDRESS_PLACE)?;
+    wrong_request_at(*case.bytes.get(ADDRESS_PLACE)?, printed)
+}
+
+pub fn wrong_request_at(address: u8, printed: &str) -> Option<String> {
     let wrong = printed.lines().find(|line| !is_taken(address, line))?;
     Some(format!("no device at {address:02X} takes {wrong:?}"))
 }

@@ -46,7 +46,7 @@ impl Sessions {
     }
 
     /// The addresses of the list, and some others.
-    fn some_addresses(&mut self) -> Vec<u8> {
+    pub(crate) fn some_addresses(&mut self) -> Vec<u8> {
         let mut addresses = ADDRESSES.to_vec();
         addresses.extend((0..3).map(|_| address_elsewhere(&mut self.rng)));
         addresses
@@ -208,7 +208,7 @@ fn mixed_addresses(address: u8, command: u8) -> [(&'static str, [u8; 3]); 5] {
 }
 
 /// Spoils a device so that a session with it ends with this verdict from 23 on, 31 with N 1.
-fn spoil(session: &mut Session, verdict: u8) {
+pub(crate) fn spoil(session: &mut Session, verdict: u8) {
     match verdict {
         PROGRAM => session.device.statuses = vec![0x00, 0x09],
         BANKS => session.device.banks ^= 0x10,

@@ -6,8 +6,8 @@ use crate::device::{ADDRESS_PLACE, HEADER_BYTES, SETTINGS_BYTES};
 use crate::draft::Draft;
 use crate::line::ADDRESS;
 
-const ROOM_FOR_FILE: usize = 65_600;
-const ROOM_FOR_REPLIES: usize = 200_000;
+pub(crate) const ROOM_FOR_FILE: usize = 65_600;
+pub(crate) const ROOM_FOR_REPLIES: usize = 200_000;
 const FINE: Settings = Settings {
     step_1: 1,
     poll_limit: 10,
@@ -163,7 +163,7 @@ fn header(settings: Settings, length: u32) -> Vec<u8> {
 }
 
 /// Replies that take so many bytes in a dry run's input, which are at least two.
-fn replies_of_size(mut size: usize) -> Vec<Reply> {
+pub(crate) fn replies_of_size(mut size: usize) -> Vec<Reply> {
     let most = 2 + 255;
     let mut replies = Vec::new();
     while size > 0 {

@@ -43,7 +43,7 @@ impl Sessions {
     }
 
     /// Any step, the write lines being not much likelier than the others.
-    pub(super) fn any_place(&mut self, steps: &[Step]) -> usize {
+    pub(crate) fn any_place(&mut self, steps: &[Step]) -> usize {
         loop {
             let place = self.rng.below(steps.len());
             if !steps[place].name.starts_with("line-") || self.rng.once_in(20) {
@@ -52,7 +52,7 @@ impl Sessions {
         }
     }
 
-    fn random_polls(&mut self, session: &mut Session) {
+    pub(crate) fn random_polls(&mut self, session: &mut Session) {
         let most = usize::from(session.settings.poll_limit.min(9)) - 1;
         let clear = self.rng.from_to(0, most);
         let device = &mut session.device;
@@ -65,7 +65,7 @@ impl Sessions {
         device.statuses.push(others | 1);
     }
 
-    fn perturb(&mut self, session: &mut Session) {
+    pub(crate) fn perturb(&mut self, session: &mut Session) {
         let device = &mut session.device;
         let bit = 1u32 << self.rng.below(32);
         match self.rng.below(8) {

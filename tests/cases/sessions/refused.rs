@@ -10,10 +10,10 @@ use crate::numbers::{REVISION, SAME, SIZE, SPOT};
 use crate::spoil::{broken_from, spoiled, Field, FIELDS};
 use crate::text::{capital, with_line};
 
-const OF_THE_FILE: [u8; 7] = [SIZE, COUNT, REVISION, DEVICE, BURNS, SPOT, SAME];
+pub(crate) const OF_THE_FILE: [u8; 7] = [SIZE, COUNT, REVISION, DEVICE, BURNS, SPOT, SAME];
 
 /// Settings that are not allowed: poll limits, house rules (document 02, R-13) and addresses.
-const BAD_LIMITS: [u16; 6] = [0, 10_001, 10_002, 20_000, 0x8000, 65_535];
+pub(crate) const BAD_LIMITS: [u16; 6] = [0, 10_001, 10_002, 20_000, 0x8000, 65_535];
 const BAD_RULES: [u8; 5] = [0, 3, 4, 128, 255];
 const BAD_ADDRESSES: [u8; 9] = [0x00, 0x0E, 0x0F, 0x11, 0xC1, 0xEF, 0xF0, 0xFE, 0xFF];
 
@@ -86,7 +86,7 @@ impl Sessions {
         self.put_bytes(&format!("{label}-and-file-{number}"), &bytes);
     }
 
-    fn any_refused_file(&mut self) -> (u8, Vec<u8>) {
+    pub(crate) fn any_refused_file(&mut self) -> (u8, Vec<u8>) {
         if self.rng.once_in(2) {
             let number = self.rng.pick(&OF_THE_FILE);
             (number, self.refused_file(number))
@@ -130,7 +130,7 @@ impl Sessions {
     }
 
     /// A file refused with this number, which no line has.
-    fn refused_file(&mut self, number: u8) -> Vec<u8> {
+    pub(crate) fn refused_file(&mut self, number: u8) -> Vec<u8> {
         let kind = self.rng.kind();
         let mut draft = Draft::random(&mut self.rng, kind, 2);
         let at = draft.free_line(&mut self.rng);
@@ -149,7 +149,7 @@ impl Sessions {
     }
 
     /// A file with a line refused with this number, and where.
-    fn file_with_fault(&mut self, fault: u8) -> (At, Vec<u8>) {
+    pub(crate) fn file_with_fault(&mut self, fault: u8) -> (At, Vec<u8>) {
         let (draft, number) = self.draft_and_line();
         let (place, digits) = spoiled(&mut self.rng, number, draft.get(number), &[fault]);
         let file = with_line(&mut self.rng, &draft, number, &digits);
@@ -157,7 +157,7 @@ impl Sessions {
     }
 
     /// A file with a line whose first broken field is this one, and where.
-    fn file_with_broken(&mut self, field: Field) -> (At, Vec<u8>) {
+    pub(crate) fn file_with_broken(&mut self, field: Field) -> (At, Vec<u8>) {
         let (draft, number) = self.draft_and_line();
         let wrong = broken_from(&mut self.rng, number, draft.get(number), field);
         let file = with_line(&mut self.rng, &draft, number, &capital(&wrong));

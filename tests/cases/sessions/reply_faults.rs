@@ -4,7 +4,7 @@ use super::{Session, Sessions};
 use crate::device::{replies_of, Reply, Step};
 
 /// A reply that ends a session: the verdict that it gives, its name, and itself.
-pub(super) type Faulty = (u8, &'static str, Reply);
+pub(crate) type Faulty = (u8, &'static str, Reply);
 
 impl Sessions {
     pub(super) fn reply_faults(&mut self) {
@@ -36,7 +36,7 @@ impl Sessions {
         }
     }
 
-    pub(super) fn session_with_three_polls(&mut self, k: usize) -> Session {
+    pub(crate) fn session_with_three_polls(&mut self, k: usize) -> Session {
         let kind = self.rng.kind();
         let mut session = self.session(kind, k);
         session.settings.step_1 = 1;
@@ -65,7 +65,7 @@ impl Sessions {
     }
 
     /// Faulty replies to a request at an address.
-    pub(super) fn faulty_replies(&mut self, address: u8, step: &Step) -> Vec<Faulty> {
+    pub(crate) fn faulty_replies(&mut self, address: u8, step: &Step) -> Vec<Faulty> {
         let mut faults = match step.read {
             None => self.faulty_write_replies(address),
             Some(command) => self.faulty_read_replies(address, command, &step.reply.bytes),
