@@ -204,7 +204,7 @@ fn fastest(text: &[u8]) -> u8 {
     whole.number()
 }
 
-fn proved(text: &[u8]) -> u8 {
+pub fn proved(text: &[u8]) -> u8 {
     unsafe { tehilgam_refusal(text.as_ptr(), text.len()) }
 }
 
