@@ -10,16 +10,18 @@ use Rattle.summary.specs.declared.Summary.{Summary}
 use Rattle.session.specs.declared.Settings.{Settings}
 use Rattle.session.specs.Begin.{beginWith}
 
+abbrev pub id : List ℕ → ℕ → ConfigId
+id ids i = configId (getD ids i 0)
+
 unfoldable pub summaryWith : ℕ → ℕ → ℕ → List ℕ → Summary
 summaryWith n k line5 ids =
-    let id : ℕ → ConfigId = λ i. configId (getD ids i 0) in
     record {
       kind = Production;
       identity = 0x49D28100;
       lines = n;
       configs = k;
       line5 = line5;
-      ids = id 0 ∷ id 1 ∷ id 2 ∷ id 3 ∷ id 4 ∷ id 5 ∷ id 6 ∷ id 7 ∷ [];
+      ids = id ids 0 ∷ id ids 1 ∷ id ids 2 ∷ id ids 3 ∷ id ids 4 ∷ id ids 5 ∷ id ids 6 ∷ id ids 7 ∷ [];
       crcs = replicate 8 0xE0CD9882;
     }
 
