@@ -1,7 +1,8 @@
 // Runs the examples of document 01 that are marked to be run and compared through the proved functions, and then every reason of its
-// refusal 15, and prints what comes out: a line each. The file `stdout` beside src/ has the page's answers.
+// refusal 15, a reply's and a begin's, and prints what comes out: a line each. The file `stdout` beside src/ has the page's answers.
 mod said;
 mod states;
+mod summaries;
 
 use counts::Kind;
 use counts::KindFound;

@@ -2,6 +2,7 @@
 // spoiled, or a text that is not the session's own, and what `reply` hands back. Beside them stands what is not 15. The file on
 // standard input is accepted, of production, with k = 2 and so n = 738; its line 1 has the identity of the page's examples.
 use crate::said::say_handed;
+use crate::summaries;
 use bus::Bus;
 use counts::ConfigId;
 use libc::STDIN_FILENO;
@@ -285,4 +286,5 @@ pub(crate) fn run() {
     before_reply(begun.session, file);
     refused(settings, file);
     line_due(begun.session, file);
+    summaries::run(settings, begun.session.file, file);
 }
