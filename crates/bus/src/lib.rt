@@ -1,5 +1,7 @@
 // The bus: its codes and registers, the requests, and the form of a reply. It knows no device: every request is made for an address
 // that it is given (document 02, R-2).
+#![tactic(auto)]
+
 ghost use Rattle.std.specs.Prelude.{◌≡◌, [], ◌∷◌, false, ◌+◌, ◌≤◌, length, take};
 ghost use Rattle.bus.specs.declared.Request.{Request};
 ghost use Rattle.bus.specs.Bus.{framed, write_of, write_with, read_address, read_of, no_request, reserved};
@@ -53,6 +55,7 @@ impl Bus {
 
     // A write of the first `count` of four data bytes, with the PEC of all that goes out before it, by a lent table: a caller that
     // has made the table already does not make it again.
+    #[tactic(auto, using(crate::proofs::Laws::few_framed, crate::proofs::Laws::all_framed), unfolding(crate::specs::Bus::write_with))]
     pub fn write_with(
         address: u8,
         table: &[u8; 256],
@@ -76,6 +79,7 @@ impl Bus {
     }
 
     // The same for one write alone: the table is made for it.
+    #[tactic(auto, using(crate::proofs::Laws::write_right), unfolding(crate::specs::Bus::write_of))]
     pub fn write(address: u8, command: u8, count: usize, a: u8, b: u8, c: u8, d: u8) -> Request
         ensures { result ≡ write_of address command (take count (a ∷ b ∷ c ∷ d ∷ [])) }
     {
@@ -84,6 +88,7 @@ impl Bus {
     }
 
     // The address that a device is read by, one more than the one that it is written to by.
+    #[tactic(auto, unfolding(crate::specs::Bus::read_address))]
     pub fn read_address(address: u8) -> u8
         ensures { result ≡ read_address address }
     {
@@ -91,6 +96,7 @@ impl Bus {
     }
 
     // A read whose reply has so many bytes: 5 for a register, 6 for a block. The count is no byte of the bus.
+    #[tactic(auto, unfolding(crate::specs::Bus::read_of, crate::specs::Bus::eight))]
     pub fn read(address: u8, command: u8, count: u8) -> Request
         ensures { result ≡ read_of address command count }
     {
@@ -103,6 +109,7 @@ impl Bus {
     }
 
     // A request of zeros, which is none: it comes with a verdict.
+    #[tactic(auto, unfolding(crate::specs::Bus::no_request, crate::specs::Bus::eight))]
     pub fn none() -> Request
         ensures { result ≡ no_request }
     {
@@ -114,6 +121,7 @@ impl Bus {
     }
 
     // Whether RESTORE_CFG may not be this code, which the guide uses for something else (14 SETTING).
+    #[tactic(auto, using(promise::proofs::Basics::or_none, crate::proofs::Laws::tests), unfolding(crate::specs::Bus::reserved, promise::specs::Lists::is_in))]
     pub fn reserved(command: u8) -> bool
         ensures { result ≡ reserved command }
     {
@@ -148,6 +156,7 @@ fn laid(a: u8, b: u8, c: u8, d: u8, e: u8, f: u8, g: u8, used: u8) -> Request
 }
 
 // The PEC right behind the data bytes that are used, and zeros behind it.
+#[tactic(auto, using(crate::proofs::Laws::all_four), unfolding(crate::specs::Bus::framed, crate::specs::Bus::eight))]
 fn framed(address: u8, command: u8, count: usize, a: u8, b: u8, c: u8, d: u8, pec: u8) -> Request
     ensures { result ≡ framed (address ∷ command ∷ take count (a ∷ b ∷ c ∷ d ∷ [])) pec }
 {
@@ -177,6 +186,7 @@ fn word(a: u8, b: u8, c: u8, d: u8) -> u32
 }
 
 // The word at this place, if the byte behind it is the PEC of what was asked and the bytes before it.
+#[tactic(auto, using(crate::proofs::Laws::sealed_good, crate::proofs::Laws::sealed_bad), unfolding(crate::specs::ReplyForm::word_at, crate::specs::ReplyForm::sealed_of))]
 fn sealed(asked: [u8; 8], bytes: &[u8], at: usize) -> ReplyForm
     requires { (at ≤ 1) × (length bytes.now ≡ at + 5) }
     ensures { result ≡ sealed_of asked bytes.now at }
@@ -191,6 +201,7 @@ fn sealed(asked: [u8; 8], bytes: &[u8], at: usize) -> ReplyForm
 }
 
 // A read's reply has as many bytes as it was asked for: five, or six of which the first is 4.
+#[tactic(auto, using(crate::proofs::Laws::tests), unfolding(crate::specs::ReplyForm::read_form))]
 fn read_form(asked: [u8; 8], bytes: &[u8]) -> ReplyForm
     ensures { result ≡ read_form asked bytes.now }
 {
@@ -215,6 +226,7 @@ fn read_form(asked: [u8; 8], bytes: &[u8]) -> ReplyForm
 
 impl Request {
     // The form of a reply to this request, tried at each reply before anything is read from it.
+    #[tactic(auto, using(crate::proofs::Laws::tests), unfolding(crate::specs::ReplyForm::form_of, crate::specs::ReplyForm::done_form))]
     pub fn form(self, kind: u8, bytes: &[u8]) -> ReplyForm
         ensures { result ≡ form_of self kind bytes.now }
     {

@@ -1,5 +1,7 @@
 // The four counts that the guide keeps apart, the place in a line, the two kinds of file, and the file's own formulas between the
 // counts (document 01, "The whole file"). Nothing else turns one count into another.
+#![tactic(auto)]
+
 ghost use Rattle.std.specs.Prelude.{◌≡◌, ◌+◌, ◌-◌};
 ghost use Rattle.counts.specs.Counts.{kind_of, line_count, configs_of, up_to8, identifier_line, crc_line, bank_of, first_line, step_of, crc_place};
 
@@ -36,6 +38,7 @@ pub enum KindFound {
 }
 
 // The quotient, where it is a number of configurations that the bank register can show.
+#[tactic(auto, using(crate::proofs::Tests::tests))]
 fn up_to_8(k: u32) -> u8
     ensures { result ≡ up_to8 k }
 {
@@ -44,6 +47,7 @@ fn up_to_8(k: u32) -> u8
 
 impl Kind {
     // The kind of file that the revision's first byte says.
+    #[tactic(auto, using(crate::proofs::Tests::tests), unfolding(crate::specs::Counts::kind_of))]
     pub fn of_revision(first: u8) -> KindFound
         ensures { result ≡ kind_of first }
     {
@@ -69,6 +73,7 @@ impl Kind {
     }
 
     // The configurations of a file of so many lines: 1 to 8, and 0 where the lines fit none.
+    #[tactic(auto, unfolding(crate::specs::Counts::configs_of))]
     pub fn configs(self, lines: u32) -> u8
         ensures { result ≡ configs_of self lines }
     {

@@ -6,6 +6,7 @@ ghost use Rattle.cuts.specs.Private.Blocks.{line_ends};
 use crate::Skipped;
 
 // How many lines end in a block. The count is a byte, so that sixteen bytes are counted at once.
+#[tactic(auto, using(crate::proofs::BlockCounts::ends_lf, crate::proofs::BlockCounts::ends_other, crate::proofs::BlockCounts::ends_past), unfolding(crate::specs::Private::Blocks::line_ends))]
 fn ends_in(t: &[u8]) -> u8
     requires { length t.now ≤ 128 }
     ensures { result ≡ line_ends t.now }
@@ -21,6 +22,7 @@ fn ends_in(t: &[u8]) -> u8
     count
 }
 
+#[tactic(auto, using(promise::proofs::Basics::split))]
 fn block_at(s: &[u8], i: usize) -> bool
     ensures { result ≡ leb (i + 128) (length s.now) }
 {
@@ -32,6 +34,7 @@ fn block_at(s: &[u8], i: usize) -> bool
 }
 
 // Past the blocks: where the rest begins, and how many lines are left to skip there.
+#[tactic(auto, using(promise::proofs::Basics::via, crate::proofs::BlockCounts::skip_block), unfolding(crate::specs::Lines::place_of))]
 pub(crate) fn skip_blocks(s: &[u8], at: usize, lines: usize) -> Skipped
     ensures { at + place_of lines (drop at s.now) ≡ result.at + place_of result.left (drop result.at s.now) }
 {

@@ -1,4 +1,6 @@
 // A text cut into lines (document 01, "Lines of the file"): where the line starts that comes behind some lines.
+#![tactic(auto)]
+
 mod blocks;
 
 ghost use Rattle.std.specs.Prelude.{◌≡◌, drop, ◌+◌};
@@ -14,6 +16,7 @@ struct Skipped {
 }
 
 // The place behind the line's LF, or the text's end where it has none.
+#[tactic(auto, using(crate::proofs::FirstLine::skip_lf, crate::proofs::FirstLine::skip_on, crate::proofs::FirstLine::skip_past), unfolding(crate::specs::Lines::line_skip))]
 fn line_end(s: &[u8], at: usize) -> usize
     ensures { result ≡ at + line_skip (drop at s.now) }
 {
@@ -28,6 +31,7 @@ fn line_end(s: &[u8], at: usize) -> usize
 }
 
 // Line by line.
+#[tactic(auto, using(crate::proofs::FirstLine::place_on, crate::proofs::FirstLine::place_none), unfolding(crate::specs::Lines::place_of))]
 fn skip_lines(s: &[u8], at: usize, lines: usize) -> usize
     ensures { result ≡ at + place_of lines (drop at s.now) }
 {

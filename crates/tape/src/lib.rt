@@ -1,5 +1,7 @@
 // Replies written one behind the other, each a kind byte, a length byte and the bytes. It stands below `session`, so that whatever is
 // held against a session reads the same replies and names nothing of it.
+#![tactic(auto)]
+
 ghost use Rattle.std.specs.Prelude.{◌≡◌, length};
 ghost use Rattle.tape.specs.Replies.{found_at, whole_replies};
 
@@ -12,6 +14,7 @@ pub enum Found {
 }
 
 // What stands at a place of the input.
+#[tactic(auto, unfolding(crate::specs::Replies::found_at))]
 pub fn reply_at(input: &[u8], at: usize) -> Found
     ensures { result ≡ found_at input.now at }
 {
@@ -31,6 +34,7 @@ pub fn reply_at(input: &[u8], at: usize) -> Found
 }
 
 // Whether the replies from a place on are whole. No input has more replies than bytes.
+#[tactic(auto, using(crate::proofs::Whole::whole_step), unfolding(crate::specs::Replies::whole_by, crate::specs::Replies::whole_replies))]
 pub fn replies_whole(input: &[u8], from: usize) -> bool
     ensures { result ≡ whole_replies (length input.now) input.now from }
 {

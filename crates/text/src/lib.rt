@@ -1,8 +1,11 @@
 // Text made into a lent buffer: bytes, capital hex digits, decimals. Each function puts its text at a place of the buffer and answers
 // the place behind it; where the text does not fit, it leaves the buffer as it was and answers the place that it was given.
+#![tactic(auto)]
+
 ghost use Rattle.std.specs.Prelude.{◌≡◌, ◌+◌, ◌≤◌, ◌<◌, length};
 ghost use Rattle.text.specs.Text.{glyph, digits, hex, decimal, zeros_before, Puts};
 
+#[tactic(auto, unfolding(crate::specs::Text::glyph))]
 fn digit_glyph(d: u64) -> u8
     requires { d < 16 }
     ensures { result ≡ glyph d }
@@ -11,6 +14,7 @@ fn digit_glyph(d: u64) -> u8
 }
 
 // Fills the slice with the last digits of n, the highest first.
+#[tactic(auto, using(crate::proofs::Laws::digits_turn), unfolding(crate::specs::Text::digits))]
 fn spell(out: &mut [u8], base: u64, n: u64)
     requires { (2 ≤ base) × (base ≤ 16) }
     ensures { out.new ≡ digits base (length out.old) n }
@@ -24,6 +28,7 @@ fn spell(out: &mut [u8], base: u64, n: u64)
     }
 }
 
+#[tactic(auto, using(crate::proofs::Laws::put_fits, crate::proofs::Laws::behind_fits))]
 fn copy(out: &mut [u8], at: usize, bytes: &[u8]) -> usize
     requires { at + length bytes.now ≤ length out.old }
     ensures { Puts out.old at bytes.now out.new result }
@@ -37,6 +42,7 @@ fn copy(out: &mut [u8], at: usize, bytes: &[u8]) -> usize
 }
 
 // The bytes as they stand.
+#[tactic(auto, using(crate::proofs::Laws::put_not, crate::proofs::Laws::behind_not))]
 pub fn put_bytes(out: &mut [u8], at: usize, bytes: &[u8]) -> usize
     ensures { Puts out.old at bytes.now out.new result }
 {
@@ -48,6 +54,7 @@ pub fn put_bytes(out: &mut [u8], at: usize, bytes: &[u8]) -> usize
     at
 }
 
+#[tactic(auto, using(crate::proofs::Laws::hex_cut))]
 fn put_hex(out: &mut [u8], at: usize, n: u32, width: usize) -> usize
     requires { width ≤ 8 }
     ensures { Puts out.old at (hex width n) out.new result }
@@ -80,6 +87,7 @@ pub fn put_hex8(out: &mut [u8], at: usize, n: u32) -> usize
 }
 
 // How many zeros stand before the first digit that counts.
+#[tactic(auto, using(crate::proofs::Laws::zeros_on, crate::proofs::Laws::zeros_stop, crate::proofs::Laws::zeros_last), unfolding(crate::specs::Text::zeros_before))]
 fn zeros(spelled: &[u8]) -> usize
     ensures { (result ≡ zeros_before spelled.now) × (result ≤ length spelled.now) }
 {
@@ -95,6 +103,7 @@ fn zeros(spelled: &[u8]) -> usize
 }
 
 // A decimal without leading zeros.
+#[tactic(auto, using(crate::proofs::Laws::decimal_cut), unfolding(crate::specs::Text::decimal))]
 pub fn put_decimal(out: &mut [u8], at: usize, n: u64) -> usize
     ensures { Puts out.old at (decimal n) out.new result }
 {
