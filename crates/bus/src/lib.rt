@@ -8,7 +8,7 @@ ghost use Rattle.bus.specs.Bus.{framed, write_of, write_with, read_address, read
 ghost use Rattle.bus.specs.ReplyForm.{word_of, sealed_of, read_form, form_of};
 
 // What is handed to the host: eight bytes, of which `used` are sent or, of a read, ask; the others are zeros.
-#[derive(Drop)]
+#[derive(Clone, Copy)]
 pub struct Request {
     pub bytes: [u8; 8],
     pub used: u8,
@@ -16,7 +16,7 @@ pub struct Request {
 }
 
 // A name for what belongs to the bus: its codes, its registers, and the constructors of its requests.
-#[derive(Drop)]
+#[derive(Clone, Copy)]
 pub struct Bus {}
 
 impl Bus {
@@ -170,7 +170,7 @@ fn framed(address: u8, command: u8, count: usize, a: u8, b: u8, c: u8, d: u8, pe
 }
 
 // What a reply is found to be: 20, 21 or 22, or in form with the word read (0 for a write).
-#[derive(Drop)]
+#[derive(Clone, Copy)]
 pub enum ReplyForm {
     Unanswered,
     Misshapen,

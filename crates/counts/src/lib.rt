@@ -6,32 +6,32 @@ ghost use Rattle.std.specs.Prelude.{◌≡◌, ◌+◌, ◌-◌};
 ghost use Rattle.counts.specs.Counts.{kind_of, line_count, configs_of, up_to8, identifier_line, crc_line, bank_of, first_line, step_of, crc_place};
 
 // A line of the file, counted from 1; 0 where a refusal names no line.
-#[derive(Drop)]
+#[derive(Clone, Copy)]
 pub struct LineNumber(pub u32);
 
 // A place in a line, in bytes, counted from 1; 0 where a refusal names no line (request R-1). No formula leads to it or from it.
-#[derive(Drop)]
+#[derive(Clone, Copy)]
 pub struct Place(pub usize);
 
 // A configuration of the file, counted from 0.
-#[derive(Drop)]
+#[derive(Clone, Copy)]
 pub struct ConfigNumber(pub u8);
 
 // A bank of the device, counted from 0.
-#[derive(Drop)]
+#[derive(Clone, Copy)]
 pub struct Bank(pub u8);
 
 // What the file calls a configuration, 0 to 15.
-#[derive(Drop)]
+#[derive(Clone, Copy)]
 pub struct ConfigId(pub u8);
 
-#[derive(Drop)]
+#[derive(Clone, Copy)]
 pub enum Kind {
     Legacy,
     Production,
 }
 
-#[derive(Drop)]
+#[derive(Clone, Copy)]
 pub enum KindFound {
     Is(Kind),
     Unknown,

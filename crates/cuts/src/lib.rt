@@ -9,7 +9,7 @@ ghost use Rattle.cuts.specs.Lines.{line_skip, place_of};
 use blocks::skip_blocks;
 
 // A place, and how many lines are left to skip from there.
-#[derive(Drop)]
+#[derive(Clone, Copy)]
 struct Skipped {
     pub at: usize,
     pub left: usize,

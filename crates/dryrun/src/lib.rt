@@ -15,13 +15,13 @@ pub const FILE_AT: usize = 10;
 pub const LENGTH_BYTES: usize = 4;
 
 // What stands at the front of an input that is whole: the settings, and the place behind the file.
-#[derive(Drop)]
+#[derive(Clone, Copy)]
 pub struct Header {
     pub settings: Settings,
     pub behind: usize,
 }
 
-#[derive(Drop)]
+#[derive(Clone, Copy)]
 pub enum Input {
     CutShort,
     TooLong,
@@ -29,7 +29,7 @@ pub enum Input {
 }
 
 // A file with its length in front of a dry run's input: the place behind it.
-#[derive(Drop)]
+#[derive(Clone, Copy)]
 pub enum Part {
     CutShort,
     TooLong,

@@ -11,7 +11,7 @@ pub use requests::{cleared, line_request, point};
 use summary::Refusal;
 
 // Why a session that had begun is halted, 20 to 30.
-#[derive(Drop)]
+#[derive(Clone, Copy)]
 pub enum Reason {
     Nack,
     Shape,
@@ -27,7 +27,7 @@ pub enum Reason {
 }
 
 // How a session can end: DONE, a refused beginning (14, the file's refusal, or 15 for a summary), 31 with its N, or 20 to 30.
-#[derive(Drop)]
+#[derive(Clone, Copy)]
 pub enum Verdict {
     Done,
     Setting,
@@ -38,7 +38,7 @@ pub enum Verdict {
 }
 
 // What a file asks of the device that it is for: its kind, its identity and a place for each configuration.
-#[derive(Drop)]
+#[derive(Clone, Copy)]
 pub struct Target {
     pub kind: Kind,
     pub identity: u32,
@@ -46,7 +46,7 @@ pub struct Target {
 }
 
 // The words that step 2 reads, in its order.
-#[derive(Drop)]
+#[derive(Clone, Copy)]
 pub struct Words {
     pub counter: u32,
     pub identity: u32,
@@ -55,14 +55,14 @@ pub struct Words {
 }
 
 // 23 to 28, or none of them.
-#[derive(Drop)]
+#[derive(Clone, Copy)]
 pub enum Fit {
     Matched,
     Fails(Reason),
 }
 
 // What a status read in step 4 comes to: bit 0 is clear, or it is 1 and the others of 5..0 are right, or wrong.
-#[derive(Drop)]
+#[derive(Clone, Copy)]
 pub enum Polled {
     Busy,
     Passed,

@@ -8,7 +8,7 @@ use session::{Answer, Report, Session, Settings};
 use summary::{Summary, Told};
 
 // A simulated regulator. It judges nothing, and answers at its address, in form while it lasts (specs/Statements.antt).
-#[derive(Drop)]
+#[derive(Clone, Copy)]
 struct Regulator {
     pub address: u8,
     // What it holds once it is programmed.
@@ -29,21 +29,21 @@ struct Regulator {
     pub burns: u32,
 }
 
-#[derive(Drop)]
+#[derive(Clone, Copy)]
 struct Reply {
     pub kind: u8,
     pub count: usize,
     pub bytes: [u8; 6],
 }
 
-#[derive(Drop)]
+#[derive(Clone, Copy)]
 struct Carried {
     pub regulator: Regulator,
     pub reply: Reply,
 }
 
 // What a run leaves.
-#[derive(Drop)]
+#[derive(Clone, Copy)]
 struct Run {
     pub answer: Answer,
     pub session: Session,

@@ -15,7 +15,7 @@ use summary::{Checked, Refusal, Whole};
 use walk::facts_of;
 
 // What the walk keeps of the lines: how many, whether one before the last is a burn, and whether the last is.
-#[derive(Drop)]
+#[derive(Clone, Copy)]
 struct Facts {
     pub lines: u32,
     pub early: bool,
@@ -23,14 +23,14 @@ struct Facts {
 }
 
 // The walk's end: every line is good, or the refusal of the first that is not.
-#[derive(Drop)]
+#[derive(Clone, Copy)]
 enum Walked {
     Through(Facts),
     Bad(Refusal),
 }
 
 // What the identifier and CRC lines of the first configurations say, and whether one of them is not C6.
-#[derive(Drop)]
+#[derive(Clone, Copy)]
 struct Spots {
     pub amiss: bool,
     pub ids: [ConfigId; 8],
@@ -38,7 +38,7 @@ struct Spots {
 }
 
 // The spots with those of one configuration more, and the place behind its lines.
-#[derive(Drop)]
+#[derive(Clone, Copy)]
 struct Marked {
     pub spots: Spots,
     pub next: usize,

@@ -1,5 +1,7 @@
 // One line of the text (document 01, "Lines of the file"): its digits, its values, and its reading as an enum. Two tables are
 // made once for a file and lent down: what each byte counts as a digit, and the remainders of the packet error code.
+#![tactic(auto)]
+
 mod digits_table;
 mod places;
 mod scan;
@@ -26,7 +28,7 @@ use values::line_of;
 const ADDRESS: u8 = 0xC0;
 
 // What a good line says: its command, how many data bytes it has, the first four of them (zeros where there are fewer), its CRC.
-#[derive(Drop)]
+#[derive(Clone, Copy)]
 pub struct Line {
     pub command: u8,
     pub count: usize,
@@ -38,7 +40,7 @@ pub struct Line {
 }
 
 // Numbers 2 to 6 of document 01, "Numbers for a file".
-#[derive(Drop)]
+#[derive(Clone, Copy)]
 pub enum Fault {
     Char,
     Pairs,
@@ -48,21 +50,21 @@ pub enum Fault {
 }
 
 // A line's refusal: the first fault of 2 to 6, and the place in the line that it is about (request R-1). Handed on whole.
-#[derive(Drop)]
+#[derive(Clone, Copy)]
 pub struct LineRefusal {
     pub fault: Fault,
     pub place: Place,
 }
 
 // A line's reading: the good line, or its refusal.
-#[derive(Drop)]
+#[derive(Clone, Copy)]
 pub enum LineReading {
     Good(Line),
     Refused(LineRefusal),
 }
 
 // Reading at a place: nothing is left, a good line with the place behind it, or a refusal.
-#[derive(Drop)]
+#[derive(Clone, Copy)]
 pub enum NextLine {
     End,
     Took(Line, usize),
@@ -70,14 +72,14 @@ pub enum NextLine {
 }
 
 // What follows a run of digits: the end of the line, with the place behind it, or something else.
-#[derive(Drop)]
+#[derive(Clone, Copy)]
 enum Ending {
     Other,
     Next(usize),
 }
 
 // A line with the place behind it, taken in its usual form, or left.
-#[derive(Drop)]
+#[derive(Clone, Copy)]
 enum Taken {
     Is(Line, usize),
     Not,
@@ -99,6 +101,7 @@ impl Fault {
 }
 
 // The table of digits, to be made once and lent.
+#[tactic(auto, using(pec::proofs::Entries::follows, crate::proofs::LentIsRight::keeps), unfolding(crate::specs::Digits::digit_val))]
 pub fn digits() -> [u8; 256]
     ensures { IsDigits result }
 {
@@ -106,6 +109,7 @@ pub fn digits() -> [u8; 256]
 }
 
 // The last three tests of a line, on its values.
+#[tactic(auto, using(promise::proofs::Basics::via, crate::proofs::LineParts::values_length), unfolding(crate::specs::Reading::read_values, pec::specs::Lent::run_with, crate::specs::Digits::values_of, crate::specs::Digits::digit_by))]
 fn read_values(digits: &[u8; 256], table: &[u8; 256], t: &[u8], n: LineNumber) -> LineReading
     ensures { result ≡ read_values (run_with table.now 0) n (values_of (digit_by digits.now) t.now) }
 {
@@ -125,6 +129,7 @@ fn read_values(digits: &[u8; 256], table: &[u8; 256], t: &[u8], n: LineNumber) -
 }
 
 // The last four, on a text of digits.
+#[tactic(auto, using(promise::proofs::Basics::via), unfolding(crate::specs::Reading::read_digits, crate::specs::Digits::digit_by, pec::specs::Lent::run_with))]
 fn read_digits(digits: &[u8; 256], table: &[u8; 256], t: &[u8], n: LineNumber) -> LineReading
     ensures { result ≡ read_digits (digit_by digits.now) (run_with table.now 0) n t.now }
 {
@@ -135,6 +140,7 @@ fn read_digits(digits: &[u8; 256], table: &[u8; 256], t: &[u8], n: LineNumber) -
     }
 }
 
+#[tactic(auto, unfolding(crate::specs::Reading::next_by))]
 fn next_by(reading: LineReading, next: usize) -> NextLine
     ensures { result ≡ next_by reading next }
 {
@@ -145,6 +151,7 @@ fn next_by(reading: LineReading, next: usize) -> NextLine
 }
 
 // The reading by a search for the end of the digits.
+#[tactic(auto, using(promise::proofs::Basics::via, crate::proofs::LentIsRight::lent_here))]
 fn searched(digits: &[u8; 256], table: &[u8; 256], s: &[u8], at: usize, n: LineNumber) -> NextLine
     requires { at < length s.now }
     ensures { result ≡ lent_next digits.now table.now n at s.now }
@@ -158,6 +165,7 @@ fn searched(digits: &[u8; 256], table: &[u8; 256], s: &[u8], at: usize, n: LineN
 }
 
 // The reading of the line that starts at a place, if one does.
+#[tactic(auto, using(crate::proofs::LentIsRight::lent_past))]
 pub fn read_at(
     digits: &[u8; 256],
     table: &[u8; 256],

@@ -26,6 +26,7 @@ pub(crate) fn last_pair(t: &[u8]) -> usize
 }
 
 // The tag of the table's rows for a line.
+#[tactic(auto, using(counts::proofs::Tests::tests), unfolding(crate::specs::Places::tag_of))]
 fn tag_of(n: u32) -> u8
     ensures { result ≡ tag_of n }
 {
@@ -33,6 +34,7 @@ fn tag_of(n: u32) -> u8
 }
 
 // The commands of its rows, with any count of data.
+#[tactic(auto, using(counts::proofs::Tests::tests), unfolding(crate::specs::Places::command_ok))]
 fn command_ok(n: u32, command: u8) -> bool
     ensures { result ≡ command_ok n command }
 {
@@ -56,6 +58,7 @@ fn command_ok(n: u32, command: u8) -> bool
 }
 
 // Of a line that breaks the table: tag before address before command before count of data.
+#[tactic(auto, using(promise::proofs::Basics::via), unfolding(crate::specs::Places::form_place))]
 fn form_place(n: u32, tag: u8, address: u8, command: u8) -> usize
     ensures { result ≡ form_place n tag address command }
 {
@@ -72,6 +75,7 @@ fn form_place(n: u32, tag: u8, address: u8, command: u8) -> usize
 }
 
 // The same on a line's digits.
+#[tactic(auto, unfolding(crate::specs::Places::form_place_of, crate::specs::Digits::values_of, crate::specs::Digits::digit_by))]
 pub(crate) fn form_place_of(digits: &[u8; 256], t: &[u8], n: LineNumber) -> usize
     ensures { result ≡ form_place_of n (values_of (digit_by digits.now) t.now) }
 {

@@ -15,6 +15,7 @@ pub(crate) fn byte_at(s: &[u8], i: usize) -> u8
 }
 
 // A CR belongs to a line's end only where it stands directly before an LF.
+#[tactic(auto, using(counts::proofs::Tests::tests))]
 pub(crate) fn cr_lf(a: u8, b: u8) -> bool
     ensures { result ≡ cr_lf a b }
 {
@@ -22,6 +23,7 @@ pub(crate) fn cr_lf(a: u8, b: u8) -> bool
 }
 
 // Where the run of digits ends that starts at a place.
+#[tactic(auto, using(crate::proofs::LineParts::run_on, crate::proofs::LineParts::run_stop, crate::proofs::LineParts::run_past), unfolding(crate::specs::Digits::digit_run, crate::specs::Digits::digit_by))]
 pub(crate) fn run_end(digits: &[u8; 256], s: &[u8], at: usize) -> usize
     ensures { result ≡ at + digit_run (digit_by digits.now) (drop at s.now) }
 {
@@ -37,6 +39,7 @@ pub(crate) fn run_end(digits: &[u8; 256], s: &[u8], at: usize) -> usize
 }
 
 // What stands at a place where digits end: a line's end, the text's end, or something else.
+#[tactic(auto, using(promise::proofs::Basics::via, promise::proofs::Basics::drop_at1, promise::proofs::Basics::at0), unfolding(crate::specs::Lent::ending_of))]
 pub(crate) fn end_at(s: &[u8], e: usize) -> Ending
     ensures { result ≡ ending_of e (drop e s.now) }
 {

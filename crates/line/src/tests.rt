@@ -10,6 +10,7 @@ use bus::Bus;
 use counts::LineNumber;
 
 // PAIRS: odd digits, or under 10, or over 74.
+#[tactic(auto, using(counts::proofs::Tests::tests), unfolding(crate::specs::Reading::bad_pairs))]
 pub(crate) fn bad_pairs(d: usize) -> bool
     ensures { result ≡ bad_pairs d }
 {
@@ -21,6 +22,7 @@ pub(crate) fn bad_pairs(d: usize) -> bool
 }
 
 // Length counts what follows it; tag and length come before.
+#[tactic(auto, using(crate::proofs::LineParts::values_length), unfolding(crate::specs::Reading::length_right, crate::specs::Digits::values_of, crate::specs::Digits::digit_by))]
 pub(crate) fn length_right(digits: &[u8; 256], t: &[u8]) -> bool
     ensures { result ≡ length_right (values_of (digit_by digits.now) t.now) }
 {
@@ -28,6 +30,7 @@ pub(crate) fn length_right(digits: &[u8; 256], t: &[u8]) -> bool
 }
 
 // The last byte is held to the code of address, command and data.
+#[tactic(auto, unfolding(crate::specs::Reading::crc_right, pec::specs::Lent::run_with, crate::specs::Digits::values_of, crate::specs::Digits::digit_by))]
 pub(crate) fn crc_right(digits: &[u8; 256], table: &[u8; 256], t: &[u8]) -> bool
     ensures { result ≡ crc_right (run_with table.now 0) (values_of (digit_by digits.now) t.now) }
 {
@@ -35,6 +38,7 @@ pub(crate) fn crc_right(digits: &[u8; 256], table: &[u8; 256], t: &[u8]) -> bool
 }
 
 // The counts of lines 3 and 4, whose data is not interpreted.
+#[tactic(auto, using(counts::proofs::Tests::tests), unfolding(crate::specs::Reading::some_to32))]
 pub(crate) fn some_to_32(count: usize) -> bool
     ensures { result ≡ some_to32 count }
 {
@@ -42,6 +46,7 @@ pub(crate) fn some_to_32(count: usize) -> bool
 }
 
 // The table's rows for lines 1 to 4.
+#[tactic(auto, using(counts::proofs::Tests::tests), unfolding(crate::specs::Reading::head_ok))]
 pub(crate) fn head_ok(n: u32, command: u8, count: usize) -> bool
     ensures { result ≡ head_ok n command count }
 {
@@ -73,6 +78,7 @@ pub(crate) fn head_ok(n: u32, command: u8, count: usize) -> bool
 }
 
 // Its rows for lines 5 on.
+#[tactic(auto, using(counts::proofs::Tests::tests), unfolding(crate::specs::Reading::body_ok))]
 pub(crate) fn body_ok(command: u8, count: usize) -> bool
     ensures { result ≡ body_ok command count }
 {
@@ -90,6 +96,7 @@ pub(crate) fn body_ok(command: u8, count: usize) -> bool
 }
 
 // FORM: tag and address, and then the row by the line's number.
+#[tactic(auto, using(counts::proofs::Tests::tests), unfolding(crate::specs::Reading::form_ok))]
 pub(crate) fn form_ok(n: u32, tag: u8, address: u8, command: u8, count: usize) -> bool
     ensures { result ≡ form_ok n tag address command count }
 {
@@ -113,6 +120,7 @@ pub(crate) fn form_ok(n: u32, tag: u8, address: u8, command: u8, count: usize) -
 }
 
 // The same on a line's digits.
+#[tactic(auto, using(crate::proofs::LineParts::values_length), unfolding(crate::specs::Reading::form_right, crate::specs::Digits::values_of, crate::specs::Digits::digit_by))]
 pub(crate) fn form_right(digits: &[u8; 256], t: &[u8], n: LineNumber) -> bool
     ensures { result ≡ form_right n (values_of (digit_by digits.now) t.now) }
 {

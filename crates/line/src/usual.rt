@@ -13,6 +13,7 @@ use crate::values::{digit, value_at};
 use crate::{ADDRESS, Ending, Line, Taken};
 use counts::LineNumber;
 
+#[tactic(auto, using(crate::proofs::LineParts::digits_on, crate::proofs::LineParts::digits_stop, crate::proofs::LineParts::digits_past), unfolding(crate::specs::Digits::all_digits, crate::specs::Digits::digit_by))]
 fn all_digits(digits: &[u8; 256], t: &[u8]) -> bool
     ensures { result ≡ all_digits (digit_by digits.now) t.now }
 {
@@ -28,6 +29,7 @@ fn all_digits(digits: &[u8; 256], t: &[u8]) -> bool
 }
 
 // What follows the digits from a place to e, where they are digits and the run of them ends there.
+#[tactic(auto, using(promise::proofs::Basics::via), unfolding(crate::specs::Private::Quick::ends_run, crate::specs::Digits::digit_by))]
 fn ends_run(digits: &[u8; 256], s: &[u8], at: usize, e: usize) -> Ending
     requires { (at ≤ e) × (e < length s.now) }
     ensures { result ≡ ends_run (digit_by digits.now) at e s.now }
@@ -44,6 +46,7 @@ fn ends_run(digits: &[u8; 256], s: &[u8], at: usize, e: usize) -> Ending
 }
 
 // Tag, length and address of a write line.
+#[tactic(auto, using(counts::proofs::Tests::tests), unfolding(crate::specs::Private::Quick::headed, crate::specs::Digits::values_of, crate::specs::Digits::digit_by))]
 fn headed(digits: &[u8; 256], t: &[u8], size: u8) -> bool
     ensures { result ≡ headed (values_of (digit_by digits.now) t.now) size }
 {
@@ -59,6 +62,7 @@ fn headed(digits: &[u8; 256], t: &[u8], size: u8) -> bool
 }
 
 // The code of address, command and two data bytes.
+#[tactic(auto, unfolding(pec::specs::Lent::run_with))]
 fn code_of_two(table: &[u8; 256], command: u8, d0: u8, d1: u8) -> u8
     ensures { result ≡ run_with table.now 0 (0xC0 ∷ command ∷ d0 ∷ d1 ∷ []) }
 {
@@ -69,6 +73,7 @@ fn code_of_two(table: &[u8; 256], command: u8, d0: u8, d1: u8) -> u8
 }
 
 // Two more.
+#[tactic(auto, unfolding(pec::specs::Lent::run_with))]
 fn code_of_four(table: &[u8; 256], command: u8, d0: u8, d1: u8, d2: u8, d3: u8) -> u8
     ensures { result ≡ run_with table.now 0 (0xC0 ∷ command ∷ d0 ∷ d1 ∷ d2 ∷ d3 ∷ []) }
 {
@@ -78,6 +83,7 @@ fn code_of_four(table: &[u8; 256], command: u8, d0: u8, d1: u8, d2: u8, d3: u8) 
 }
 
 // The line of two data bytes.
+#[tactic(auto, using(promise::proofs::Basics::via, crate::proofs::Taking::two_taken), unfolding(crate::specs::Reading::next_by))]
 fn two_in(digits: &[u8; 256], table: &[u8; 256], t: &[u8], n: LineNumber, next: usize) -> Taken
     requires { (length t.now ≡ 14) × (4 < n.0) }
     ensures { Takes (next_by (read_by digits.now table.now n t.now) next) result }
@@ -106,6 +112,7 @@ fn two_in(digits: &[u8; 256], table: &[u8; 256], t: &[u8], n: LineNumber, next: 
 }
 
 // The line of four.
+#[tactic(auto, using(promise::proofs::Basics::via, crate::proofs::Taking::four_taken), unfolding(crate::specs::Reading::next_by))]
 fn four_in(digits: &[u8; 256], table: &[u8; 256], t: &[u8], n: LineNumber, next: usize) -> Taken
     requires { (length t.now ≡ 18) × (4 < n.0) }
     ensures { Takes (next_by (read_by digits.now table.now n t.now) next) result }
@@ -136,6 +143,7 @@ fn four_in(digits: &[u8; 256], table: &[u8; 256], t: &[u8], n: LineNumber, next:
 }
 
 // A line of 14 digits.
+#[tactic(auto, using(promise::proofs::Basics::via, crate::proofs::Taking::usual_here))]
 fn short_at(digits: &[u8; 256], table: &[u8; 256], s: &[u8], at: usize, n: LineNumber) -> Taken
     requires { (at + 14 < length s.now) × (4 < n.0) }
     ensures { Takes (lent_next digits.now table.now n at s.now) result }
@@ -149,6 +157,7 @@ fn short_at(digits: &[u8; 256], table: &[u8; 256], s: &[u8], at: usize, n: LineN
 }
 
 // A line of 18.
+#[tactic(auto, using(promise::proofs::Basics::via, crate::proofs::Taking::usual_here))]
 fn long_at(digits: &[u8; 256], table: &[u8; 256], s: &[u8], at: usize, n: LineNumber) -> Taken
     requires { (at + 18 < length s.now) × (4 < n.0) }
     ensures { Takes (lent_next digits.now table.now n at s.now) result }

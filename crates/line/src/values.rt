@@ -7,6 +7,7 @@ ghost use Rattle.line.specs.Reading.{covered_of, data_of, last_of, line_of};
 use crate::Line;
 
 // What a byte counts as.
+#[tactic(auto, unfolding(crate::specs::Digits::digit_by))]
 pub(crate) fn digit(digits: &[u8; 256], b: u8) -> u8
     ensures { result ≡ digit_by digits.now b }
 {
@@ -14,6 +15,7 @@ pub(crate) fn digit(digits: &[u8; 256], b: u8) -> u8
 }
 
 // The byte of the i-th pair of digits, and 0 past the last pair.
+#[tactic(auto, using(crate::proofs::LineParts::values_at_lem, crate::proofs::LineParts::values_past), unfolding(crate::specs::Digits::pair_val, crate::specs::Digits::values_of, crate::specs::Digits::digit_by))]
 pub(crate) fn value_at(digits: &[u8; 256], t: &[u8], i: usize) -> u8
     ensures { result ≡ get_or (values_of (digit_by digits.now) t.now) i 0 }
 {
@@ -34,6 +36,7 @@ pub(crate) fn wide(x: u8) -> u16
 }
 
 // The code of address, command and data.
+#[tactic(auto, using(crate::proofs::LineParts::values_length, crate::proofs::LineParts::code_on, crate::proofs::LineParts::code_end), unfolding(pec::specs::Lent::run_with, crate::specs::Digits::values_of, crate::specs::Digits::digit_by))]
 pub(crate) fn crc_of(digits: &[u8; 256], table: &[u8; 256], t: &[u8]) -> u8
     ensures { result ≡ run_with table.now 0 (covered_of (values_of (digit_by digits.now) t.now)) }
 {
@@ -48,6 +51,7 @@ pub(crate) fn crc_of(digits: &[u8; 256], table: &[u8; 256], t: &[u8]) -> u8
 }
 
 // Data stands between the command and the CRC.
+#[tactic(auto, using(crate::proofs::LineParts::values_length, crate::proofs::LineParts::slice_get, crate::proofs::LineParts::slice_past), unfolding(crate::specs::Digits::values_of, crate::specs::Digits::digit_by))]
 pub(crate) fn data_at(digits: &[u8; 256], t: &[u8], i: usize) -> u8
     requires { i < 4 }
     ensures { result ≡ get_or (data_of (values_of (digit_by digits.now) t.now)) i 0 }
@@ -68,6 +72,7 @@ pub(crate) fn data_count(t: &[u8]) -> usize
 }
 
 // The line's own CRC.
+#[tactic(auto, using(crate::proofs::LineParts::values_length, crate::proofs::LineParts::values_past), unfolding(crate::specs::Digits::values_of, crate::specs::Digits::digit_by))]
 pub(crate) fn last_value(digits: &[u8; 256], t: &[u8]) -> u8
     ensures { result ≡ last_of (values_of (digit_by digits.now) t.now) }
 {
@@ -76,6 +81,7 @@ pub(crate) fn last_value(digits: &[u8; 256], t: &[u8]) -> u8
 }
 
 // What the rest of the house sees of a good line.
+#[tactic(auto, using(crate::proofs::LineParts::values_length), unfolding(crate::specs::Reading::line_of, crate::specs::Digits::values_of, crate::specs::Digits::digit_by))]
 pub(crate) fn line_of(digits: &[u8; 256], t: &[u8]) -> Line
     ensures { result ≡ line_of (values_of (digit_by digits.now) t.now) }
 {

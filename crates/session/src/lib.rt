@@ -13,7 +13,7 @@ use counts::{ConfigNumber, LineNumber};
 use guide::{Verdict, Words};
 use summary::{Summary, Told};
 
-#[derive(Drop)]
+#[derive(Clone, Copy)]
 pub struct Settings {
     // Whether step 1 is wanted.
     pub wanted: bool,
@@ -28,7 +28,7 @@ pub struct Settings {
 }
 
 // The request whose reply is awaited, in the order of the six steps.
-#[derive(Drop)]
+#[derive(Clone, Copy)]
 pub enum Awaited {
     CaptureAt,
     CaptureRead,
@@ -50,14 +50,14 @@ pub enum Awaited {
     CrcRead,
 }
 
-#[derive(Drop)]
+#[derive(Clone, Copy)]
 pub enum Stage {
     Open(Awaited),
     Ended(Verdict),
 }
 
 // What a call says: a request is out, the session is over, or the state is refused (15), which is no verdict.
-#[derive(Drop)]
+#[derive(Clone, Copy)]
 pub enum Answer {
     Next,
     Over(Verdict),
@@ -65,14 +65,14 @@ pub enum Answer {
 }
 
 // An answer in document 01's numbers: none stands yet, or what is told of it.
-#[derive(Drop)]
+#[derive(Clone, Copy)]
 pub enum Report {
     Waiting,
     Is(Told),
 }
 
 // Where the session is in the file and with the device, and what it has read.
-#[derive(Drop)]
+#[derive(Clone, Copy)]
 pub struct Position {
     // The write line last put out, 5 before any.
     pub line: LineNumber,
@@ -85,7 +85,7 @@ pub struct Position {
     pub read: Words,
 }
 
-#[derive(Drop)]
+#[derive(Clone, Copy)]
 pub struct Session {
     pub settings: Settings,
     pub file: Summary,
@@ -99,7 +99,7 @@ pub struct Session {
     pub burned: bool,
 }
 
-#[derive(Drop)]
+#[derive(Clone, Copy)]
 pub struct Handed {
     pub session: Session,
     pub request: Request,

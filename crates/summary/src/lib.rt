@@ -9,7 +9,7 @@ use counts::{ConfigId, ConfigNumber, Kind, LineNumber, Place};
 use line::{Line, LineRefusal};
 
 // The faults of the whole file, numbers 1, 7 to 11 and 13 of document 01, "Numbers for a file". 12 is unused (request R-9).
-#[derive(Drop)]
+#[derive(Clone, Copy)]
 pub enum Whole {
     Size,
     Count,
@@ -21,20 +21,20 @@ pub enum Whole {
 }
 
 // The first faulty line with its refusal, numbers 2 to 6, or the whole file's. Handed on whole.
-#[derive(Drop)]
+#[derive(Clone, Copy)]
 pub enum Refusal {
     Line(LineNumber, LineRefusal),
     Whole(Whole),
 }
 
-#[derive(Drop)]
+#[derive(Clone, Copy)]
 pub enum FileAnswer {
     Accepted,
     Refused(Refusal),
 }
 
 // What is told of an answer: document 01's number, the line, the place in it, and N.
-#[derive(Drop)]
+#[derive(Clone, Copy)]
 pub struct Told {
     pub number: u8,
     pub line: LineNumber,
@@ -43,7 +43,7 @@ pub struct Told {
 }
 
 // What an accepted file says. `line5` is the place of line 5 in the text.
-#[derive(Drop)]
+#[derive(Clone, Copy)]
 pub struct Summary {
     pub kind: Kind,
     pub identity: u32,
@@ -55,7 +55,7 @@ pub struct Summary {
 }
 
 // The summary holds arrays, so it stands beside the answer: of zeros where the file is refused.
-#[derive(Drop)]
+#[derive(Clone, Copy)]
 pub struct Checked {
     pub answer: FileAnswer,
     pub summary: Summary,

@@ -6,7 +6,7 @@ ghost use Rattle.std.specs.Prelude.{◌≡◌, length};
 ghost use Rattle.tape.specs.Replies.{found_at, whole_replies};
 
 // What stands at a place: nothing more, a reply of this kind with the bytes from one place to another, or a part of one.
-#[derive(Drop)]
+#[derive(Clone, Copy)]
 pub enum Found {
     End,
     Reply(u8, usize, usize),
