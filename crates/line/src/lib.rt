@@ -109,7 +109,7 @@ pub fn digits() -> [u8; 256]
 }
 
 // The last three tests of a line, on its values.
-#[tactic(auto, using(promise::proofs::Basics::via, crate::proofs::LineParts::values_length), unfolding(crate::specs::Reading::read_values, pec::specs::Lent::run_with, crate::specs::Digits::values_of, crate::specs::Digits::digit_by))]
+#[tactic(auto, using(promise::proofs::Basics::via, crate::proofs::LineParts::values_length), unfolding(crate::specs::Reading::read_values))]
 fn read_values(digits: &[u8; 256], table: &[u8; 256], t: &[u8], n: LineNumber) -> LineReading
     ensures { result ≡ read_values (run_with table.now 0) n (values_of (digit_by digits.now) t.now) }
 {
@@ -129,7 +129,7 @@ fn read_values(digits: &[u8; 256], table: &[u8; 256], t: &[u8], n: LineNumber) -
 }
 
 // The last four, on a text of digits.
-#[tactic(auto, using(promise::proofs::Basics::via), unfolding(crate::specs::Reading::read_digits, crate::specs::Digits::digit_by, pec::specs::Lent::run_with))]
+#[tactic(auto, using(promise::proofs::Basics::via), unfolding(crate::specs::Reading::read_digits))]
 fn read_digits(digits: &[u8; 256], table: &[u8; 256], t: &[u8], n: LineNumber) -> LineReading
     ensures { result ≡ read_digits (digit_by digits.now) (run_with table.now 0) n t.now }
 {

@@ -75,7 +75,7 @@ fn form_place(n: u32, tag: u8, address: u8, command: u8) -> usize
 }
 
 // The same on a line's digits.
-#[tactic(auto, unfolding(crate::specs::Places::form_place_of, crate::specs::Digits::values_of, crate::specs::Digits::digit_by))]
+#[tactic(auto, unfolding(crate::specs::Places::form_place_of))]
 pub(crate) fn form_place_of(digits: &[u8; 256], t: &[u8], n: LineNumber) -> usize
     ensures { result ≡ form_place_of n (values_of (digit_by digits.now) t.now) }
 {

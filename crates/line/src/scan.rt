@@ -23,7 +23,7 @@ pub(crate) fn cr_lf(a: u8, b: u8) -> bool
 }
 
 // Where the run of digits ends that starts at a place.
-#[tactic(auto, using(crate::proofs::LineParts::run_on, crate::proofs::LineParts::run_stop, crate::proofs::LineParts::run_past), unfolding(crate::specs::Digits::digit_run, crate::specs::Digits::digit_by))]
+#[tactic(auto, using(crate::proofs::LineParts::run_on, crate::proofs::LineParts::run_stop, crate::proofs::LineParts::run_past))]
 pub(crate) fn run_end(digits: &[u8; 256], s: &[u8], at: usize) -> usize
     ensures { result ≡ at + digit_run (digit_by digits.now) (drop at s.now) }
 {

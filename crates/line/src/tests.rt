@@ -22,7 +22,7 @@ pub(crate) fn bad_pairs(d: usize) -> bool
 }
 
 // Length counts what follows it; tag and length come before.
-#[tactic(auto, using(crate::proofs::LineParts::values_length), unfolding(crate::specs::Reading::length_right, crate::specs::Digits::values_of, crate::specs::Digits::digit_by))]
+#[tactic(auto, using(crate::proofs::LineParts::values_length), unfolding(crate::specs::Reading::length_right))]
 pub(crate) fn length_right(digits: &[u8; 256], t: &[u8]) -> bool
     ensures { result ≡ length_right (values_of (digit_by digits.now) t.now) }
 {
@@ -30,7 +30,7 @@ pub(crate) fn length_right(digits: &[u8; 256], t: &[u8]) -> bool
 }
 
 // The last byte is held to the code of address, command and data.
-#[tactic(auto, unfolding(crate::specs::Reading::crc_right, pec::specs::Lent::run_with, crate::specs::Digits::values_of, crate::specs::Digits::digit_by))]
+#[tactic(auto, unfolding(crate::specs::Reading::crc_right))]
 pub(crate) fn crc_right(digits: &[u8; 256], table: &[u8; 256], t: &[u8]) -> bool
     ensures { result ≡ crc_right (run_with table.now 0) (values_of (digit_by digits.now) t.now) }
 {
@@ -120,7 +120,7 @@ pub(crate) fn form_ok(n: u32, tag: u8, address: u8, command: u8, count: usize) -
 }
 
 // The same on a line's digits.
-#[tactic(auto, using(crate::proofs::LineParts::values_length), unfolding(crate::specs::Reading::form_right, crate::specs::Digits::values_of, crate::specs::Digits::digit_by))]
+#[tactic(auto, using(crate::proofs::LineParts::values_length), unfolding(crate::specs::Reading::form_right))]
 pub(crate) fn form_right(digits: &[u8; 256], t: &[u8], n: LineNumber) -> bool
     ensures { result ≡ form_right n (values_of (digit_by digits.now) t.now) }
 {

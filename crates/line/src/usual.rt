@@ -13,7 +13,7 @@ use crate::values::{digit, value_at};
 use crate::{ADDRESS, Ending, Line, Taken};
 use counts::LineNumber;
 
-#[tactic(auto, using(crate::proofs::LineParts::digits_on, crate::proofs::LineParts::digits_stop, crate::proofs::LineParts::digits_past), unfolding(crate::specs::Digits::all_digits, crate::specs::Digits::digit_by))]
+#[tactic(auto, using(crate::proofs::LineParts::digits_on, crate::proofs::LineParts::digits_stop, crate::proofs::LineParts::digits_past))]
 fn all_digits(digits: &[u8; 256], t: &[u8]) -> bool
     ensures { result ≡ all_digits (digit_by digits.now) t.now }
 {
@@ -29,7 +29,7 @@ fn all_digits(digits: &[u8; 256], t: &[u8]) -> bool
 }
 
 // What follows the digits from a place to e, where they are digits and the run of them ends there.
-#[tactic(auto, using(promise::proofs::Basics::via), unfolding(crate::specs::Private::Quick::ends_run, crate::specs::Digits::digit_by))]
+#[tactic(auto, using(promise::proofs::Basics::via), unfolding(crate::specs::Private::Quick::ends_run))]
 fn ends_run(digits: &[u8; 256], s: &[u8], at: usize, e: usize) -> Ending
     requires { (at ≤ e) × (e < length s.now) }
     ensures { result ≡ ends_run (digit_by digits.now) at e s.now }
@@ -46,7 +46,7 @@ fn ends_run(digits: &[u8; 256], s: &[u8], at: usize, e: usize) -> Ending
 }
 
 // Tag, length and address of a write line.
-#[tactic(auto, using(counts::proofs::Tests::tests), unfolding(crate::specs::Private::Quick::headed, crate::specs::Digits::values_of, crate::specs::Digits::digit_by))]
+#[tactic(auto, using(counts::proofs::Tests::tests), unfolding(crate::specs::Private::Quick::headed))]
 fn headed(digits: &[u8; 256], t: &[u8], size: u8) -> bool
     ensures { result ≡ headed (values_of (digit_by digits.now) t.now) size }
 {
@@ -83,7 +83,7 @@ fn code_of_four(table: &[u8; 256], command: u8, d0: u8, d1: u8, d2: u8, d3: u8) 
 }
 
 // The line of two data bytes.
-#[tactic(auto, using(promise::proofs::Basics::via, crate::proofs::Taking::two_taken), unfolding(crate::specs::Reading::next_by))]
+#[tactic(auto, using(promise::proofs::Basics::via, crate::proofs::Taking::two_taken))]
 fn two_in(digits: &[u8; 256], table: &[u8; 256], t: &[u8], n: LineNumber, next: usize) -> Taken
     requires { (length t.now ≡ 14) × (4 < n.0) }
     ensures { Takes (next_by (read_by digits.now table.now n t.now) next) result }
@@ -112,7 +112,7 @@ fn two_in(digits: &[u8; 256], table: &[u8; 256], t: &[u8], n: LineNumber, next: 
 }
 
 // The line of four.
-#[tactic(auto, using(promise::proofs::Basics::via, crate::proofs::Taking::four_taken), unfolding(crate::specs::Reading::next_by))]
+#[tactic(auto, using(promise::proofs::Basics::via, crate::proofs::Taking::four_taken))]
 fn four_in(digits: &[u8; 256], table: &[u8; 256], t: &[u8], n: LineNumber, next: usize) -> Taken
     requires { (length t.now ≡ 18) × (4 < n.0) }
     ensures { Takes (next_by (read_by digits.now table.now n t.now) next) result }

@@ -15,7 +15,7 @@ pub(crate) fn digit(digits: &[u8; 256], b: u8) -> u8
 }
 
 // The byte of the i-th pair of digits, and 0 past the last pair.
-#[tactic(auto, using(crate::proofs::LineParts::values_at_lem, crate::proofs::LineParts::values_past), unfolding(crate::specs::Digits::pair_val, crate::specs::Digits::values_of, crate::specs::Digits::digit_by))]
+#[tactic(auto, using(crate::proofs::LineParts::values_at_lem, crate::proofs::LineParts::values_past), unfolding(crate::specs::Digits::pair_val))]
 pub(crate) fn value_at(digits: &[u8; 256], t: &[u8], i: usize) -> u8
     ensures { result ≡ get_or (values_of (digit_by digits.now) t.now) i 0 }
 {
@@ -36,7 +36,7 @@ pub(crate) fn wide(x: u8) -> u16
 }
 
 // The code of address, command and data.
-#[tactic(auto, using(crate::proofs::LineParts::values_length, crate::proofs::LineParts::code_on, crate::proofs::LineParts::code_end), unfolding(pec::specs::Lent::run_with, crate::specs::Digits::values_of, crate::specs::Digits::digit_by))]
+#[tactic(auto, using(crate::proofs::LineParts::values_length, crate::proofs::LineParts::code_on, crate::proofs::LineParts::code_end))]
 pub(crate) fn crc_of(digits: &[u8; 256], table: &[u8; 256], t: &[u8]) -> u8
     ensures { result ≡ run_with table.now 0 (covered_of (values_of (digit_by digits.now) t.now)) }
 {
@@ -51,7 +51,7 @@ pub(crate) fn crc_of(digits: &[u8; 256], table: &[u8; 256], t: &[u8]) -> u8
 }
 
 // Data stands between the command and the CRC.
-#[tactic(auto, using(crate::proofs::LineParts::values_length, crate::proofs::LineParts::slice_get, crate::proofs::LineParts::slice_past), unfolding(crate::specs::Digits::values_of, crate::specs::Digits::digit_by))]
+#[tactic(auto, using(crate::proofs::LineParts::values_length, crate::proofs::LineParts::slice_get, crate::proofs::LineParts::slice_past))]
 pub(crate) fn data_at(digits: &[u8; 256], t: &[u8], i: usize) -> u8
     requires { i < 4 }
     ensures { result ≡ get_or (data_of (values_of (digit_by digits.now) t.now)) i 0 }
@@ -72,7 +72,7 @@ pub(crate) fn data_count(t: &[u8]) -> usize
 }
 
 // The line's own CRC.
-#[tactic(auto, using(crate::proofs::LineParts::values_length, crate::proofs::LineParts::values_past), unfolding(crate::specs::Digits::values_of, crate::specs::Digits::digit_by))]
+#[tactic(auto, using(crate::proofs::LineParts::values_length, crate::proofs::LineParts::values_past))]
 pub(crate) fn last_value(digits: &[u8; 256], t: &[u8]) -> u8
     ensures { result ≡ last_of (values_of (digit_by digits.now) t.now) }
 {
@@ -81,7 +81,7 @@ pub(crate) fn last_value(digits: &[u8; 256], t: &[u8]) -> u8
 }
 
 // What the rest of the house sees of a good line.
-#[tactic(auto, using(crate::proofs::LineParts::values_length), unfolding(crate::specs::Reading::line_of, crate::specs::Digits::values_of, crate::specs::Digits::digit_by))]
+#[tactic(auto, using(crate::proofs::LineParts::values_length), unfolding(crate::specs::Reading::line_of))]
 pub(crate) fn line_of(digits: &[u8; 256], t: &[u8]) -> Line
     ensures { result ≡ line_of (values_of (digit_by digits.now) t.now) }
 {
