@@ -56,6 +56,7 @@ module _ (s : List ℕ) where
   module _ (short : length s ≤ 65536) (reads : AllRead 1 (lines_of s)) where
     end_given : (a : FileAnswer) → answer_of s ≡ a → Ends (WholeTable (values_in (lines_of s))) a → Gives a
     end_given Accepted e (passes none) = accepted (meets (passed s e))
+    end_given (Refused (refusal.Line _ _)) e x = elim x [ ]
     end_given (Refused (refusal.Whole w)) e (stops _ turn first) =
         whole (lines_of s) (values_in (lines_of s)) turn _ short (text_exactly s).cut (faultless (lines_of s) reads) (read_spelled (lines_of s) reads) first
 

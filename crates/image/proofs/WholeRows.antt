@@ -37,6 +37,7 @@ listed_known (Memᴰ.head e) = rw e
 listed_known (Memᴰ.tail (Memᴰ.head e)) = rw e
 listed_known (Memᴰ.tail (Memᴰ.tail (Memᴰ.head e))) = rw e
 listed_known (Memᴰ.tail (Memᴰ.tail (Memᴰ.tail (Memᴰ.head e)))) = rw e
+listed_known (Memᴰ.tail (Memᴰ.tail (Memᴰ.tail (Memᴰ.tail m)))) = elim m [ ]
 
 module _ {ls vs : List (List ℕ)} (spelled : Spelled ls vs) (forms : Forms vs) where
   -- ---- 7 for under 13 lines

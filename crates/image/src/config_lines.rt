@@ -14,6 +14,7 @@ use counts::{ConfigId, ConfigNumber, Kind, LineNumber};
 use line::{Line, NextLine};
 
 // The line that was taken, and a line of zeros where none was.
+#[tactic(auto, unfolding(crate::specs::Private::Walk::line_in))]
 fn line_in(found: NextLine) -> Line
     ensures { result ≡ line_in found }
 {
@@ -34,6 +35,7 @@ fn line_in(found: NextLine) -> Line
 }
 
 // The line that starts at a place.
+#[tactic(auto, using(line::proofs::LentIsRight::read_is))]
 pub(crate) fn line_at(
     digits: &[u8; 256],
     table: &[u8; 256],
@@ -48,6 +50,7 @@ pub(crate) fn line_at(
 }
 
 // Whether a configuration's identifier line or its CRC line is not C6.
+#[tactic(auto, using(promise::proofs::Basics::via), unfolding(crate::specs::Private::Walk::off_spot))]
 fn off_spot(id: Line, crc: Line) -> bool
     ensures { result ≡ off_spot id crc }
 {
@@ -56,6 +59,7 @@ fn off_spot(id: Line, crc: Line) -> bool
 
 // The spots with those of one configuration more, and the place of the next one's first line. Eleven lines stand before an
 // identifier line (document 01, "The whole file").
+#[tactic(auto, using(crate::proofs::SpotPlaces::place_more, crate::proofs::SpotPlaces::to_id, crate::proofs::SpotPlaces::to_crc, crate::proofs::SpotPlaces::to_next), unfolding(crate::specs::Private::Walk::line_at))]
 fn spots_with(
     digits: &[u8; 256],
     table: &[u8; 256],
@@ -85,6 +89,7 @@ fn spots_with(
 }
 
 // Before the first configuration.
+#[tactic(auto, unfolding(crate::specs::Private::Walk::no_spots))]
 fn no_spots() -> Spots
     ensures { result ≡ no_spots }
 {
@@ -96,6 +101,7 @@ fn no_spots() -> Spots
 }
 
 // The spots of the first k configurations.
+#[tactic(auto, using(crate::proofs::SpotPlaces::place_start))]
 pub(crate) fn spots_of(
     digits: &[u8; 256],
     table: &[u8; 256],
@@ -117,6 +123,7 @@ pub(crate) fn spots_of(
 }
 
 // Whether two of the first k identifiers are equal: the search over pairs is left at the first.
+#[tactic(auto, using(crate::proofs::Pairs::at_on, crate::proofs::Pairs::in_on, crate::proofs::Pairs::in_found), unfolding(crate::specs::Private::Walk::same_in, crate::specs::Tests::some_below, crate::specs::Private::Walk::same_at))]
 pub(crate) fn same_in(ids: [ConfigId; 8], k: usize) -> bool
     requires { k ≤ 8 }
     ensures { result ≡ same_in ids k }

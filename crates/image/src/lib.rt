@@ -1,5 +1,7 @@
 // The whole file (document 01, "The whole file" and "Numbers for a file"): its answer, and what an accepted file says. The two
 // tables that reading a line needs are made once, in `check`, and lent down.
+#![tactic(auto)]
+
 mod config_lines;
 mod device;
 mod order;
@@ -45,6 +47,7 @@ struct Marked {
 }
 
 // The file's answer, and what it says where it is accepted.
+#[tactic(auto, using(crate::proofs::RestOfTests::stops, crate::proofs::RestOfTests::passes), unfolding(crate::specs::Check::check_of, crate::specs::Check::answer_of, crate::specs::Tests::too_long, crate::specs::Private::Rest::lines_then_whole))]
 pub fn check(text: &[u8]) -> Checked
     ensures { result ≡ check_of text.now }
 {

@@ -26,6 +26,7 @@ pub(crate) fn refused_by(refusal: Refusal) -> Checked
 }
 
 // 10, 11, 13, or accepted.
+#[tactic(auto, using(promise::proofs::Basics::via, crate::proofs::SpotPlaces::line_one, crate::proofs::SpotPlaces::place_from, crate::proofs::WalkKeeps::said, crate::proofs::RestOfTests::few_configs, crate::proofs::RestOfTests::burn_stops, crate::proofs::RestOfTests::spot_stops, crate::proofs::RestOfTests::same_stops, crate::proofs::RestOfTests::accepts))]
 fn on_spots(
     digits: &[u8; 256],
     table: &[u8; 256],
@@ -66,6 +67,7 @@ fn on_spots(
 }
 
 // The last line is not the burn, or an earlier one is.
+#[tactic(auto, using(counts::proofs::Tests::tests), unfolding(crate::specs::Private::Walk::burn_amiss_in))]
 fn burn_amiss(f: Facts) -> bool
     ensures { result ≡ burn_amiss_in f }
 {
@@ -73,6 +75,7 @@ fn burn_amiss(f: Facts) -> bool
 }
 
 // 7 for n.
+#[tactic(auto, using(crate::proofs::RestOfTests::few_configs, crate::proofs::RestOfTests::none_stops, crate::proofs::RestOfTests::count_passes))]
 fn on_configs(
     digits: &[u8; 256],
     table: &[u8; 256],
@@ -93,6 +96,7 @@ fn on_configs(
 }
 
 // 8, 9.
+#[tactic(auto, using(promise::proofs::Basics::via, crate::proofs::SpotPlaces::line_one, crate::proofs::RestOfTests::revision_stops, crate::proofs::RestOfTests::device_stops, crate::proofs::RestOfTests::device_passes, crate::proofs::RestOfTests::counted))]
 fn on_kind(digits: &[u8; 256], table: &[u8; 256], s: &[u8], f: Facts, found: KindFound) -> Checked
     requires { (IsDigits digits.now × IsTable table.now) × AllGood s.now f × (revision_says (lines_of s.now) ≡ found) }
     ensures { result ≡ rest_of 1 s.now }
@@ -110,6 +114,7 @@ fn on_kind(digits: &[u8; 256], table: &[u8; 256], s: &[u8], f: Facts, found: Kin
 }
 
 // 7 for under 13 lines.
+#[tactic(auto, using(crate::proofs::SpotPlaces::line_two, crate::proofs::SpotPlaces::place_from, crate::proofs::RestOfTests::few_stops, crate::proofs::RestOfTests::few_passes, crate::proofs::RestOfTests::revision_is))]
 fn on_facts(digits: &[u8; 256], table: &[u8; 256], s: &[u8], f: Facts) -> Checked
     requires { (IsDigits digits.now × IsTable table.now) × AllGood s.now f }
     ensures { result ≡ rest_of 0 s.now }
@@ -123,6 +128,7 @@ fn on_facts(digits: &[u8; 256], table: &[u8; 256], s: &[u8], f: Facts) -> Checke
 }
 
 // 2 to 6, handed on, or the tests of the whole file.
+#[tactic(auto, using(crate::proofs::RestOfTests::line_stops, crate::proofs::RestOfTests::lines_pass))]
 pub(crate) fn on_walked(digits: &[u8; 256], table: &[u8; 256], s: &[u8], walked: Walked) -> Checked
     requires { (IsDigits digits.now × IsTable table.now) × (facts_from start (lines_of s.now) ≡ walked) }
     ensures { result ≡ lines_then_whole s.now }

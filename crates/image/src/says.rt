@@ -7,6 +7,7 @@ use counts::ConfigId;
 use line::Line;
 
 // Four bytes as a number, the highest first.
+#[tactic(auto, unfolding(crate::specs::Says::word))]
 fn word(a: u8, b: u8, c: u8, d: u8) -> u32
     ensures { result ≡ word a b c d }
 {
@@ -20,6 +21,7 @@ fn wide(x: u8) -> u32
 }
 
 // The device identity, highest byte first.
+#[tactic(auto, unfolding(crate::specs::Says::identity_of))]
 pub(crate) fn identity_of(l: Line) -> u32
     ensures { result ≡ identity_of l }
 {
@@ -27,6 +29,7 @@ pub(crate) fn identity_of(l: Line) -> u32
 }
 
 // The identifier: the line's tenth digit.
+#[tactic(auto, unfolding(crate::specs::Says::id_of))]
 pub(crate) fn id_of(l: Line) -> ConfigId
     ensures { result ≡ id_of l }
 {
@@ -34,6 +37,7 @@ pub(crate) fn id_of(l: Line) -> ConfigId
 }
 
 // The configuration CRC, lowest byte first.
+#[tactic(auto, unfolding(crate::specs::Says::crc_of))]
 pub(crate) fn crc_of(l: Line) -> u32
     ensures { result ≡ crc_of l }
 {
@@ -41,6 +45,7 @@ pub(crate) fn crc_of(l: Line) -> u32
 }
 
 // Identifier and CRC lines carry this command.
+#[tactic(auto, unfolding(crate::specs::Says::is_c6))]
 pub(crate) fn is_c6(l: Line) -> bool
     ensures { result ≡ is_c6 l }
 {

@@ -18,6 +18,7 @@ pub(crate) fn either(a: bool, b: bool) -> bool
 }
 
 // The facts with one good line more.
+#[tactic(auto, unfolding(crate::specs::Private::Walk::facts_with))]
 fn facts_with(f: Facts, l: Line) -> Facts
     requires { f.lines + 1 < 2 ^ 32 }
     ensures { result ≡ facts_with f l }
@@ -30,6 +31,7 @@ fn facts_with(f: Facts, l: Line) -> Facts
 }
 
 // The facts of all lines, or the refusal of the first faulty one.
+#[tactic(auto, using(promise::proofs::Basics::via, line::proofs::LentIsRight::read_is, crate::proofs::WalkSteps::facts_end, crate::proofs::WalkSteps::facts_stop, crate::proofs::WalkSteps::facts_took, crate::proofs::WalkSteps::with_lines), unfolding(crate::specs::Private::Walk::start))]
 pub(crate) fn facts_of(digits: &[u8; 256], table: &[u8; 256], s: &[u8]) -> Walked
     requires { (IsDigits digits.now × IsTable table.now) × (length s.now ≤ 65536) }
     ensures { result ≡ facts_from start (lines_of s.now) }

@@ -1,5 +1,7 @@
 // What a check hands back (document 01, "Numbers for a file" and "The whole file"): a file's answer, what is told of it, and
 // what an accepted file says.
+#![tactic(auto)]
+
 ghost use Rattle.std.specs.Prelude.{◌≡◌};
 ghost use Rattle.summary.specs.Answers.{plain, whole_number, refusal_told, answer_told, no_summary};
 ghost use Rattle.summary.specs.Burn.{is_burn};
@@ -125,6 +127,7 @@ impl FileAnswer {
 
 impl Summary {
     // That of a refused file.
+    #[tactic(auto, unfolding(crate::specs::Answers::no_summary))]
     pub fn none() -> Summary
         ensures { result ≡ no_summary }
     {
@@ -141,6 +144,7 @@ impl Summary {
 }
 
 // Whether a line is the burn.
+#[tactic(auto, using(counts::proofs::Tests::tests), unfolding(crate::specs::Burn::is_burn))]
 pub fn is_burn(l: Line) -> bool
     ensures { result ≡ is_burn l }
 {
