@@ -46,6 +46,7 @@ bare-append [] b = refl
 bare-append (q ∷ a) b = ap (λ (l : List Request). q.request ∷ l) (bare-append a b)
 
 next_leads : {p p' : Plan} {ys xs : List Exchange} {q : Request} → Leads p ys p' → Next ys xs q → (m : Mark) × (next : ℕ → Plan) × Leads p xs (put m q next)
+next_leads {xs = xs} {q = q} (arrived {p = p}) x = elim x [ ]
 next_leads (on {m} {q} next l) (here x ys) = (m, next, arrived)
 next_leads (on {m} {q} next l) (there x ys xs r n) = let k = next_leads l n in (k.0, k.1, on next k.2)
 

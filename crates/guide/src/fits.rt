@@ -8,6 +8,7 @@ use counts::{Kind, KindFound};
 use summary::Summary;
 
 // The kind of file that a device with this counter and this flag wants.
+#[tactic(auto, using(counts::proofs::Tests::tests), unfolding(crate::specs::Judged::kind_wanted))]
 pub fn kind_wanted(counter: u32, flag: u32) -> KindFound
     ensures { result ≡ kind_wanted counter flag }
 {
@@ -26,6 +27,7 @@ pub fn kind_wanted(counter: u32, flag: u32) -> KindFound
     }
 }
 
+#[tactic(auto, unfolding(crate::specs::Judged::same_kind))]
 fn same_kind(a: Kind, b: Kind) -> bool
     ensures { result ≡ same_kind a b }
 {
@@ -42,6 +44,7 @@ fn same_kind(a: Kind, b: Kind) -> bool
 }
 
 // FLAG, OLD, KIND, PLACES, where the counter and the identity passed.
+#[tactic(auto, using(promise::proofs::Basics::via), unfolding(crate::specs::Judged::fit_kind))]
 fn fit_kind(target: Target, kept: u8, read: Words, wanted: KindFound) -> Fit
     ensures { result ≡ fit_kind target kept read wanted }
 {
@@ -81,6 +84,7 @@ impl Target {
 
 impl Fit {
     // Of what a file asks and what was read of a device, where so many of its places are kept free.
+    #[tactic(auto, unfolding(crate::specs::Judged::fit_of))]
     pub fn of(target: Target, kept: u8, read: Words) -> Fit
         ensures { result ≡ fit_of target kept read }
     {

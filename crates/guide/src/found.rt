@@ -7,6 +7,7 @@ use counts::{Bank, ConfigNumber};
 
 impl Polled {
     // Bits above 5 are not judged, and no other bit while bit 0 is clear.
+    #[tactic(auto, using(counts::proofs::Tests::tests), unfolding(crate::specs::Judged::polled_of))]
     pub fn of(status: u32) -> Polled
         ensures { result ≡ polled_of status }
     {
@@ -21,6 +22,7 @@ impl Polled {
 }
 
 // The bank's part of the register: bank b is bits 4b+3 to 4b, above four for each lower bank.
+#[tactic(auto, using(crate::proofs::Banks::above_on), unfolding(crate::specs::Judged::bank_in))]
 fn bank_shows(word: u32, bank: Bank) -> u32
     ensures { result ≡ bank_in word bank }
 {
@@ -32,6 +34,7 @@ fn bank_shows(word: u32, bank: Bank) -> u32
 }
 
 // Whether one of the first k configurations reports in this bank. `ConfigNumber::bank` alone says in which each does.
+#[tactic(auto, using(crate::proofs::Banks::reports_below, crate::proofs::Banks::reports_on), unfolding(crate::specs::Judged::reports_in))]
 fn reports_in(configs: u8, bank: Bank) -> bool
     ensures { result ≡ reports_in configs bank }
 {
@@ -45,6 +48,7 @@ fn reports_in(configs: u8, bank: Bank) -> bool
 }
 
 // 0001 where a configuration reports, 0000 elsewhere.
+#[tactic(auto, using(promise::proofs::Basics::via), unfolding(crate::specs::Judged::bank_right))]
 fn bank_right(configs: u8, word: u32, bank: Bank) -> bool
     ensures { result ≡ bank_right configs word bank.0 }
 {
@@ -56,6 +60,7 @@ fn bank_right(configs: u8, word: u32, bank: Bank) -> bool
 }
 
 // All eight banks that the register shows.
+#[tactic(auto, using(promise::proofs::Basics::via, crate::proofs::Banks::every_on, crate::proofs::Banks::every_stop), unfolding(crate::specs::Judged::every_below, crate::specs::Judged::banks_right))]
 pub fn banks_right(configs: u8, word: u32) -> bool
     ensures { result ≡ banks_right configs word }
 {

@@ -1,4 +1,6 @@
 // The guide's words: verdicts, and its decisions as functions on numbers. The guide itself stands in specs/.
+#![tactic(auto)]
+
 mod fits;
 mod found;
 mod numbers;

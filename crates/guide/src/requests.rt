@@ -7,6 +7,7 @@ use bus::{Bus, Request};
 use line::Line;
 
 // Bit 5 of the first byte cleared, the others as read.
+#[tactic(auto, unfolding(crate::specs::Judged::cleared))]
 pub fn cleared(word: u32) -> u32
     ensures { result ≡ cleared word }
 {
@@ -23,6 +24,7 @@ pub fn point(address: u8, register: u16) -> Request
 }
 
 // A write line for this address. Its PEC is worked out by a lent table; by the PEC's own and at C0 it is the line's last byte.
+#[tactic(auto, unfolding(crate::specs::Requests::line_request_with, crate::specs::Requests::line_data))]
 pub fn line_request(address: u8, table: &[u8; 256], line: Line) -> Request
     ensures { result ≡ line_request_with address table.now line }
 {

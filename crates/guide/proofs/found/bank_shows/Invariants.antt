@@ -1,0 +1,11 @@
+-- After n turns the rest is the register above its n lowest banks. Assumes nothing.
+use mathlib.Core.Path.{◌≡◌}
+use Prim.Native.Nat.{◌-◌, ◌/◌, ◌^◌, ◌≤◌}
+use native.Mathlib.Nat.{pow-zero}
+use native.Mathlib.Omega.{arith}
+use Rattle.guide.specs.Judged.{bank_in}
+use Rattle.guide.proofs.Banks.{above_on}
+use Rattle.guide.proofs.found.bank_shows.Given as goal
+
+abbrev pub invariant-loop-lower : goal.invariant-loop-lower
+invariant-loop-lower l = (l.rest ≡ l.word / 16 ^ l.lower) × (l.lower ≤ l.lower-end)
