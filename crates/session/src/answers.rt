@@ -7,6 +7,7 @@ use summary::Told;
 
 impl Answer {
     // While a reply is awaited there is no number, since DONE is 0.
+    #[tactic(auto, unfolding(crate::specs::Reports::report_of))]
     pub fn report(self) -> Report
         ensures { result ≡ report_of self }
     {

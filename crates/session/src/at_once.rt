@@ -8,6 +8,7 @@ use summary::FileAnswer;
 
 impl Settings {
     // A bad setting with a bad file is 14; a refused file has its own number.
+    #[tactic(auto, using(promise::proofs::Basics::via, crate::proofs::Laws::begin_answered, crate::proofs::Laws::begin_not), unfolding(crate::specs::Begin::answered_of))]
     pub fn begin(self, text: &[u8]) -> Handed
         ensures { result ≡ begin_of self text.now }
     {

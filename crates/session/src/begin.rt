@@ -11,6 +11,7 @@ use summary::Summary;
 
 impl Position {
     // With nothing read.
+    #[tactic(auto, unfolding(crate::specs::Begin::new_position))]
     fn new(line: LineNumber, place: usize) -> Position
         ensures { result ≡ new_position line place }
     {
@@ -31,6 +32,7 @@ impl Position {
 
 impl Session {
     // With no request put out.
+    #[tactic(auto, unfolding(crate::specs::Begin::fresh_of))]
     fn fresh(settings: Settings, file: Summary, stage: Stage, position: Position) -> Session
         ensures { result ≡ fresh_of settings file stage position }
     {
@@ -45,6 +47,7 @@ impl Session {
         }
     }
 
+    #[tactic(auto, using(crate::proofs::Tests::chosen), unfolding(crate::specs::Begin::first_of))]
     fn first_request(self) -> Handed
         requires { self.sent < 4294967295 }
         ensures { result ≡ first_of self }
@@ -60,6 +63,7 @@ impl Session {
 
 impl Settings {
     // The first request, for a file that says this.
+    #[tactic(auto, unfolding(crate::specs::Begin::fresh_of, crate::specs::Begin::start_of))]
     fn start(self, file: Summary) -> Handed
         ensures { result ≡ start_of self file }
     {
@@ -68,6 +72,7 @@ impl Settings {
     }
 
     // An ended state, of which only the settings and the verdict say anything.
+    #[tactic(auto, unfolding(crate::specs::Begin::refused_of))]
     pub(crate) fn refused(self, verdict: Verdict) -> Handed
         ensures { result ≡ refused_of self verdict }
     {
@@ -76,6 +81,7 @@ impl Settings {
     }
 
     // Settings come first: a bad setting with a bad summary is 14. Of a summary nothing but k, n and the identifiers under k is looked at.
+    #[tactic(auto, using(promise::proofs::Basics::via, crate::proofs::Laws::begin_sound, crate::proofs::Laws::begin_unsound, crate::proofs::Laws::begin_out))]
     pub fn begin_with(self, file: Summary) -> Handed
         ensures { result ≡ begin_with self file }
     {

@@ -8,6 +8,7 @@ use guide::Verdict;
 
 impl Session {
     // The same session with this request in hand at this stage.
+    #[tactic(auto, unfolding(crate::specs::Moves::with_stage))]
     fn at(self, stage: Stage, hand: Request) -> Session
         ensures { result ≡ with_stage self stage hand }
     {
@@ -26,6 +27,7 @@ impl Session {
     }
 
     // The same session at this position.
+    #[tactic(auto, unfolding(crate::specs::Moves::with_position))]
     pub(crate) fn moved(self, position: Position) -> Session
         ensures { result ≡ with_position self position }
     {
@@ -35,6 +37,7 @@ impl Session {
     }
 
     // A request that is handed over is put out, and the reply is judged by it.
+    #[tactic(auto, unfolding(crate::specs::Moves::put_of, crate::specs::Moves::with_sent, crate::specs::Moves::with_stage))]
     pub(crate) fn put(self, awaited: Awaited, request: Request) -> Handed
         requires { self.sent < 4294967295 }
         ensures { result ≡ put_of self awaited request }
@@ -49,6 +52,7 @@ impl Session {
     }
 
     // A verdict comes with a request of zeros.
+    #[tactic(auto, unfolding(crate::specs::Moves::end_of))]
     pub(crate) fn end(self, verdict: Verdict) -> Handed
         ensures { result ≡ end_of self verdict }
     {
@@ -61,6 +65,7 @@ impl Session {
     }
 
     // 15 leaves the state as given.
+    #[tactic(auto, unfolding(crate::specs::Moves::bad_of))]
     pub(crate) fn bad(self) -> Handed
         ensures { result ≡ bad_of self }
     {

@@ -8,6 +8,7 @@ use bus::Bus;
 use counts::ConfigId;
 use summary::Summary;
 
+#[tactic(auto, using(bus::proofs::Laws::tests), unfolding(crate::specs::Sound::known_rule))]
 fn known_rule(rule: u8) -> bool
     ensures { result ≡ known_rule rule }
 {
@@ -15,6 +16,7 @@ fn known_rule(rule: u8) -> bool
 }
 
 // Even, 10 to EE hex.
+#[tactic(auto, using(bus::proofs::Laws::tests), unfolding(crate::specs::Sound::is_address))]
 fn is_address(address: u8) -> bool
     ensures { result ≡ is_address address }
 {
@@ -29,6 +31,7 @@ fn is_address(address: u8) -> bool
 
 impl Settings {
     // Poll limit 1 to 10,000; RESTORE_CFG is none of the six other commands; house rule 1 or 2; a write address.
+    #[tactic(auto, using(promise::proofs::Basics::via, crate::proofs::Tests::all_not, crate::proofs::Tests::all_last1, crate::proofs::Tests::all_next), unfolding(crate::specs::Sound::all, crate::specs::Sound::setting_tests, crate::specs::Sound::allowed_of))]
     pub fn allowed(self) -> bool
         ensures { result ≡ allowed_of self }
     {
@@ -49,6 +52,7 @@ impl Settings {
     }
 
     // How many of the device's places are kept free for field service.
+    #[tactic(auto, using(bus::proofs::Laws::tests), unfolding(crate::specs::Terms::kept_of))]
     pub(crate) fn kept(self) -> u8
         ensures { result ≡ kept_of self.rule }
     {
@@ -57,6 +61,7 @@ impl Settings {
 }
 
 // No identifier of the first k is above 15.
+#[tactic(auto, using(crate::proofs::Ids::ids_stop, crate::proofs::Ids::ids_go, crate::proofs::Ids::ids_end))]
 fn ids_sound(ids: [ConfigId; 8], k: u8) -> bool
     requires { k < 9 }
     ensures { result ≡ ids_to ids k }
@@ -72,6 +77,7 @@ fn ids_sound(ids: [ConfigId; 8], k: u8) -> bool
 }
 
 // What a beginning asks of a summary, and a reply of the one that is held.
+#[tactic(auto, using(crate::proofs::Tests::all_not, crate::proofs::Tests::all_last1, crate::proofs::Tests::all_next), unfolding(crate::specs::Sound::file_sound, crate::specs::Sound::file_tests))]
 pub(crate) fn file_sound(file: Summary) -> bool
     ensures { result ≡ file_sound file }
 {
@@ -92,6 +98,7 @@ pub(crate) fn file_sound(file: Summary) -> bool
 }
 
 impl Session {
+    #[tactic(auto, using(crate::proofs::Tests::all_not, crate::proofs::Tests::all_last1, crate::proofs::Tests::all_next), unfolding(crate::specs::Sound::held_sound, crate::specs::Sound::held_tests, crate::specs::Sound::most_sent))]
     fn held_sound(self) -> bool
         ensures { result ≡ held_sound self }
     {
@@ -116,6 +123,7 @@ impl Session {
     }
 
     // The conditions of 15 that are looked at before the reply.
+    #[tactic(auto, using(promise::proofs::Basics::via, crate::proofs::Tests::all_not, crate::proofs::Tests::all_last1, crate::proofs::Tests::all_next), unfolding(crate::specs::Sound::sound_of, crate::specs::Sound::state_tests))]
     pub(crate) fn sound(self) -> bool
         ensures { result ≡ sound_of self }
     {

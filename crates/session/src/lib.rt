@@ -1,4 +1,6 @@
 // The session (document 01, "The session"): a value whose calls hand the next value back with its request.
+#![tactic(auto)]
+
 mod answers;
 mod at_once;
 mod begin;

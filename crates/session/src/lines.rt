@@ -11,6 +11,7 @@ use line::Line;
 
 impl Session {
     // The line goes out under its number, and the next stands at the place `next`.
+    #[tactic(auto, using(guide::proofs::LentTable::request_right, guide::proofs::LentTable::IsBytes), unfolding(crate::specs::Moves::with_position, crate::specs::Lines::due_put_of, crate::specs::Lines::at_line, crate::specs::Moves::with_burned))]
     fn due_put(
         self,
         table: &[u8; 256],
@@ -32,6 +33,7 @@ impl Session {
     }
 
     // Line n and no other is the burn. A burn mark that is set stays set.
+    #[tactic(auto, using(promise::proofs::Basics::via), unfolding(crate::specs::Lines::took_of))]
     fn took(self, table: &[u8; 256], line: Line, next: usize, number: LineNumber) -> Handed
         requires { IsTable table.now × Ready self }
         ensures { result ≡ took_of self line next number }
@@ -52,6 +54,7 @@ impl Session {
     }
 
     // What stands at the held place goes out as this line, or the state is refused. The tables are made here alone.
+    #[tactic(auto, using(line::proofs::LentIsRight::read_is, promise::proofs::Basics::via), unfolding(crate::specs::Lines::put_line_of, crate::specs::Lines::due_of))]
     pub(crate) fn put_line(self, text: &[u8], number: LineNumber) -> Handed
         requires { Ready self }
         ensures { result ≡ put_line_of text.now self number }
@@ -68,6 +71,7 @@ impl Session {
     }
 
     // Line n is the last; step 4 follows.
+    #[tactic(auto, unfolding(crate::specs::Lines::line_done_of))]
     pub(crate) fn line_done(self, text: &[u8]) -> Handed
         requires { Ready self }
         ensures { result ≡ line_done_of text.now self }

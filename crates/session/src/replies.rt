@@ -10,6 +10,7 @@ use bus::{Bus, ReplyForm, Request};
 use guide::{Reason, Verdict};
 
 // The word of step 1 goes back to its register, lowest byte first, as words are read.
+#[tactic(auto, unfolding(bus::specs::Bus::word_bytes))]
 fn write_back(address: u8, word: u32) -> Request
     ensures { result ≡ write_of address 0xC5 (word_bytes word) }
 {
@@ -22,6 +23,7 @@ fn write_back(address: u8, word: u32) -> Request
 
 impl Session {
     // A reply in form, by the request that it answers.
+    #[tactic(auto, unfolding(crate::specs::Reply::follow_of))]
     fn follow(self, text: &[u8], awaited: Awaited, word: u32) -> Handed
         requires { Ready self }
         ensures { result ≡ follow_of text.now self awaited word }
@@ -58,6 +60,7 @@ impl Session {
         }
     }
 
+    #[tactic(auto, unfolding(crate::specs::Reply::replied_of))]
     fn replied(self, text: &[u8], awaited: Awaited, form: ReplyForm) -> Handed
         requires { Ready self }
         ensures { result ≡ replied_of text.now self awaited form }
@@ -71,6 +74,7 @@ impl Session {
     }
 
     // After a verdict: the same verdict, the same state.
+    #[tactic(auto, unfolding(crate::specs::Moves::over_of))]
     pub(crate) fn over(self, verdict: Verdict) -> Handed
         ensures { result ≡ over_of self verdict }
     {
@@ -82,6 +86,7 @@ impl Session {
     }
 
     // A state with a verdict is not examined; any other is, before the reply is looked at.
+    #[tactic(auto, using(promise::proofs::Basics::via, crate::proofs::Laws::ready, crate::proofs::Laws::when_ended, crate::proofs::Laws::when_open))]
     pub fn reply(self, text: &[u8], kind: u8, bytes: &[u8]) -> Handed
         ensures { result ≡ reply_of text.now self kind bytes.now }
     {

@@ -10,6 +10,7 @@ use guide::{Fit, Polled, Reason, Target, Verdict};
 
 impl Session {
     // What step 2 reads is kept until the revision is read: 23 to 28 are tried only then.
+    #[tactic(auto, unfolding(crate::specs::Moves::with_position, crate::specs::Stages::counter_done_of, crate::specs::Stages::at_read, crate::specs::Stages::with_counter))]
     pub(crate) fn counter_done(self, word: u32) -> Handed
         requires { Ready self }
         ensures { result ≡ counter_done_of self word }
@@ -21,6 +22,7 @@ impl Session {
     }
 
     // Kept for 24.
+    #[tactic(auto, unfolding(crate::specs::Moves::with_position, crate::specs::Stages::identity_done_of, crate::specs::Stages::at_read, crate::specs::Stages::with_identity))]
     pub(crate) fn identity_done(self, word: u32) -> Handed
         requires { Ready self }
         ensures { result ≡ identity_done_of self word }
@@ -33,6 +35,7 @@ impl Session {
     }
 
     // Kept for 25 and 27.
+    #[tactic(auto, unfolding(crate::specs::Moves::with_position, crate::specs::Stages::flag_done_of, crate::specs::Stages::at_read, crate::specs::Stages::with_flag))]
     pub(crate) fn flag_done(self, word: u32) -> Handed
         requires { Ready self }
         ensures { result ≡ flag_done_of self word }
@@ -44,6 +47,7 @@ impl Session {
     }
 
     // The words that step 2 read, with the last of them.
+    #[tactic(auto, using(promise::proofs::Basics::via), unfolding(crate::specs::Stages::revision_done_of, crate::specs::Stages::fit_held, crate::specs::Stages::fit_done_of, crate::specs::Stages::with_revision))]
     pub(crate) fn revision_done(self, text: &[u8], word: u32) -> Handed
         requires { Ready self }
         ensures { result ≡ revision_done_of text.now self word }
@@ -60,6 +64,7 @@ impl Session {
     }
 
     // Bit 0 was clear: one poll more is used.
+    #[tactic(auto, unfolding(crate::specs::Moves::with_position, crate::specs::Stages::poll_again_of, crate::specs::Stages::at_polls))]
     fn poll_again(self) -> Handed
         requires { Ready self }
         ensures { result ≡ poll_again_of self }
@@ -77,6 +82,7 @@ impl Session {
     }
 
     // Step 5 follows a status that passed.
+    #[tactic(auto, using(promise::proofs::Basics::via), unfolding(crate::specs::Stages::status_done_of, crate::specs::Stages::polled_done_of))]
     pub(crate) fn status_done(self, word: u32) -> Handed
         requires { Ready self }
         ensures { result ≡ status_done_of self word }
@@ -91,6 +97,7 @@ impl Session {
     }
 
     // The identifier of this configuration goes out.
+    #[tactic(auto, unfolding(crate::specs::Moves::with_position, crate::specs::Stages::restore_of, crate::specs::Stages::at_config, guide::specs::Guide::id_in))]
     fn restore(self, number: ConfigNumber) -> Handed
         requires { Ready self × (number.0 < 8) }
         ensures { result ≡ restore_of self number }
@@ -108,6 +115,7 @@ impl Session {
     }
 
     // Step 6 goes through the configurations from N = 0.
+    #[tactic(auto, using(promise::proofs::Basics::via), unfolding(crate::specs::Stages::banks_done_of))]
     pub(crate) fn banks_done(self, word: u32) -> Handed
         requires { Ready self }
         ensures { result ≡ banks_done_of self word }
@@ -120,6 +128,7 @@ impl Session {
     }
 
     // DONE when all N passed.
+    #[tactic(auto, unfolding(crate::specs::Stages::crc_done_of, crate::specs::Stages::restore_next_of, guide::specs::Guide::crc_in))]
     pub(crate) fn crc_done(self, word: u32) -> Handed
         requires { Ready self }
         ensures { result ≡ crc_done_of self word }
