@@ -223,10 +223,10 @@ module _ (s : Session) (out : List Request) (ok : sound_of s ≡ true) (x : Burn
   burns_on text w g u t m q step.capture_read_lem = own_on t m q word refl refl u
   burns_on text w g u t m q step.capture_write_lem = own_on t m q (back w) refl refl u
   burns_on text w g u t m q step.capture_apply_lem = own_on t m q apply refl refl u
-  burns_on text w g u t m q step.counter_at = own_on t m q counter refl refl u
+  burns_on text w g u t m q step.counter_at_lem = own_on t m q counter refl refl u
   burns_on text w g u t m q step.counter_read_lem = own_on t m q word refl refl u
   burns_on text w g u t m q step.identity_read_lem = own_on t m q identity refl refl u
-  burns_on text w g u t m q step.flag_at = own_on t m q flag refl refl u
+  burns_on text w g u t m q step.flag_at_lem = own_on t m q flag refl refl u
   burns_on text w g u t m q step.flag_read_lem = own_on t m q word refl refl u
   burns_on text w g u t m q step.revision_read_lem = own_on t m q revision refl refl u
   burns_on text w g u _ _ _ (step.line_out_lem _ n d l next e burn b sets keeps) = line_on w g n d u text l next e burn b sets keeps

@@ -2,7 +2,7 @@
 -- Assumes nothing.
 use mathlib.Core.Path.{◌≡◌, refl, sym}
 use mathlib.Core.List.{List, [], ◌∷◌}
-use mathlib.Core.Bool.{Bool, true, false, cond, ◌||◌, or_false}
+use mathlib.Core.Bool.{Bool, true, false, cond, ◌||◌, or-false}
 use Prim.Native.Nat.{ℕ, ◌+◌, ◌≤◌}
 use native.Mathlib.Omega.{arith}
 use lib.ListN.{length}
@@ -64,7 +64,7 @@ module _ (text : List ℕ) (ls : List Line) where
 
   pub end_fits : (s : Session) (v : Verdict) → Fits s (done v) (end_of s v)
   unfolding end_of with_stage no_request put_out root_of size_of burn_of answer_for verdict
-  end_fits s v = record { sim = finished; out = refl; settings = refl; file = refl; counting = omega arith; burning = sym (or_false s.burned); says = refl }
+  end_fits s v = record { sim = finished; out = refl; settings = refl; file = refl; counting = omega arith; burning = sym (or-false s.burned); says = refl }
 
   pub hear_fits : (s : Session) (g : Awaited) (next : ℕ → Plan) (h : ReplyForm) → ((w : ℕ) → Fits s (next w) (follow_of text s g w))
       → Fits s (hear h next) (replied_of text s g h)
@@ -96,13 +96,13 @@ module _ (text : List ℕ) (ls : List Line) where
       → Lasting text ls s.settings s.file
       → Fits s (ask (asked other q) next) (put_of (with_position s x) g q)
   unfolding with_position is_burn_mark
-  moved_fits s x g q next u a l K = put_fits s (with_position s x) g other q next refl refl refl (sym (or_false s.burned)) u a l K
+  moved_fits s x g q next u a l K = put_fits s (with_position s x) g other q next refl refl refl (sym (or-false s.burned)) u a l K
 
   pub other_fits : (s : Session) (g : Awaited) (q : Request) (next : Reply → Plan) → 1 ≤ q.used
       → At text ls (holding s g q) g (ask (asked other q) next) → Bounds text ls (holding s g q) → Lasting text ls s.settings s.file
       → Fits s (ask (asked other q) next) (put_of s g q)
   unfolding is_burn_mark
-  other_fits s g q next u a l K = put_fits s s g other q next refl refl refl (sym (or_false s.burned)) u a l K
+  other_fits s g q next u a l K = put_fits s s g other q next refl refl refl (sym (or-false s.burned)) u a l K
 
   pub cond_fits : (s : Session) {p p' : Plan} {t t' : Handed} (b : Bool) → Fits s p t → Fits s p' t' → Fits s (cond b p p') (cond b t t')
   cond_fits s true f g = f

@@ -1,7 +1,7 @@
 -- A reply leads where the guide goes, by the request in hand. Assumes nothing.
 use mathlib.Core.Path.{◌≡◌, refl, sym, subst}
 use mathlib.Core.List.{List}
-use mathlib.Core.Bool.{true, or_false}
+use mathlib.Core.Bool.{true, or-false}
 use Prim.Native.Nat.{ℕ, zero, suc, ◌+◌, ◌*◌, ◌≤◌}
 use native.Mathlib.Omega.{arith}
 use borrow.Author.Tests.{lt-ltb, le-leb}
@@ -131,7 +131,7 @@ module _ (text : List ℕ) (ls : List Line) (s : Session) where
         settings = refl;
         file = refl;
         counting = omega arith;
-        burning = sym (or_false s.burned);
+        burning = sym (or-false s.burned);
         says = refl;
       }
 

@@ -1,7 +1,7 @@
 -- Step 3: the line that stands at the held place is the guide's next write line, and only line n is the burn. Assumes nothing.
 use mathlib.Core.Path.{◌≡◌, refl, ap}
 use mathlib.Core.List.{List, [], ◌∷◌}
-use mathlib.Core.Bool.{true, false, or-true, or_false}
+use mathlib.Core.Bool.{true, false, or-true, or-false}
 use Prim.Native.Nat.{ℕ, suc, ◌+◌, ◌≤◌}
 use native.Mathlib.Omega.{arith}
 use lib.Dec.{eqb}
@@ -44,7 +44,7 @@ module _ (text : List ℕ) (ls : List Line) where
       let z : eqb i (4 + length ls) ≡ false = ne_eqb i (4 + length ls) (omega arith) in
       rw (e, b.0, ne_eqb i s.file.lines (omega arith))
       (put_fits text ls s (with_burned (with_position s (at_line s.position (line_number i) next)) s.burned) LineOut (file_line i) _ _
-      refl refl refl (rw (z, or_false)) (omega arith)
+      refl refl refl (rw (z, or-false)) (omega arith)
       (line_out_lem l (m ∷ more) c p end h b) (omega arith) K)
 
   first_line_fits : (s : Session) (m : List Line) → ls ≡ m → BurnLast m → Fresh text ls s → Lasting text ls s.settings s.file

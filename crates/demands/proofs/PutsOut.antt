@@ -60,10 +60,10 @@ module _ (s : Session) (c : Call) where
   step_out h w f g o _ _ _ step.capture_read_lem = inl word
   step_out h w f g o _ _ _ step.capture_write_lem = inl (back w)
   step_out h w f g o _ _ _ step.capture_apply_lem = inl apply
-  step_out h w f g o _ _ _ step.counter_at = inl counter
+  step_out h w f g o _ _ _ step.counter_at_lem = inl counter
   step_out h w f g o _ _ _ step.counter_read_lem = inl word
   step_out h w f g o _ _ _ step.identity_read_lem = inl identity
-  step_out h w f g o _ _ _ step.flag_at = inl flag
+  step_out h w f g o _ _ _ step.flag_at_lem = inl flag
   step_out h w f g o _ _ _ step.flag_read_lem = inl word
   step_out h w f g o _ _ _ step.revision_read_lem = inl revision
   step_out h w f g o _ _ _ (step.line_out_lem _ n d l next e b _ _ _) =

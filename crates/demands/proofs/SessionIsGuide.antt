@@ -1,7 +1,7 @@
 -- The session is the guide over every list of replies, from the first request on. Assumes nothing.
 use mathlib.Core.Path.{◌≡◌, refl, sym, ap, ◌∙◌}
 use mathlib.Core.List.{List, [], ◌∷◌}
-use mathlib.Core.Bool.{Bool, true, false, cond, ◌||◌, or_false, or_assoc}
+use mathlib.Core.Bool.{Bool, true, false, cond, ◌||◌, or-false, or_assoc}
 use Prim.Native.Nat.{ℕ, suc, ◌+◌, ◌≤◌}
 use native.Mathlib.Omega.{arith}
 use lib.Dec.{leb}
@@ -65,7 +65,7 @@ module _ (text : List ℕ) (ls : List Line) where
         sends = f.out;
         says = f.says;
         counting = f.counting;
-        burning = f.burning ∙ ap (λ x. s.burned || x) (sym (or_false _) ∙ some_burn (is_burn_mark (4 + length ls) q.mark) 0);
+        burning = f.burning ∙ ap (λ x. s.burned || x) (sym (or-false _) ∙ some_burn (is_burn_mark (4 + length ls) q.mark) 0);
       }
   along s t (ask q next) f n (r ∷ rs) =
       let m = room_next s t (ask q next) f n in
@@ -89,7 +89,7 @@ module _ (text : List ℕ) (ls : List Line) where
         sends = rw (f.out, a.sends);
         says = a.says;
         counting = omega (arith, a.counting, f.counting);
-        burning = a.burning ∙ (or_false _ ∙ f.burning);
+        burning = a.burning ∙ (or-false _ ∙ f.burning);
       }
 
   module _ (S : Settings) (file : Summary) (K : Lasting text ls S file) where

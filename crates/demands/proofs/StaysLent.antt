@@ -117,30 +117,30 @@ module _ (s : Session) (rs : List Reply) (out : List Request) (r : Reply) (w : �
     line_stays g n (later h) l next b (o, few, polls) =
         (behind o (with_burned (with_position s (at_line s.position n next)) b) refl refl refl _ _ _ (omega arith), omega (arith, h), polls)
 
-    pub stays : (g : Awaited) → Where s rs out g → (t : Session) (next : Awaited) (p : Request) → Step text s w g t next p → After t next p
+    pub stays : (g : Awaited) (t : Session) (next : Awaited) (p : Request) → Step text s w g t next p → Where s rs out g → After t next p
     unfolding Where with_sent with_stage with_position at_read at_polls at_config with_counter with_identity with_flag
-    stays g (e, o) _ _ _ step.capture_read_lem = (e, on o (wrote _) refl (was_written a 0xC7 _ r w (was o)) _ CaptureRead _)
-    stays g (e, o) _ _ _ step.capture_write_lem = (w, (e, on o (got _ w) refl (was_read (register a) r w (was o)) _ CaptureWrite _))
-    stays g (c, (e, o)) _ _ _ step.capture_apply_lem = (c, (e, on o (wrote _) refl (was_written a 0xC5 _ r w (was o)) _ CaptureApply _))
-    stays g (c, (e, o)) _ _ _ step.counter_at = (
+    stays g _ _ _ step.capture_read_lem (e, o) = (e, on o (wrote _) refl (was_written a 0xC7 _ r w (was o)) _ CaptureRead _)
+    stays g _ _ _ step.capture_write_lem (e, o) = (w, (e, on o (got _ w) refl (was_read (register a) r w (was o)) _ CaptureWrite _))
+    stays g _ _ _ step.capture_apply_lem (c, (e, o)) = (c, (e, on o (wrote _) refl (was_written a 0xC5 _ r w (was o)) _ CaptureApply _))
+    stays g _ _ _ step.counter_at_lem (c, (e, o)) = (
       c,
       record {
         opened = subst (λ l. Opened (holding s CounterAt (point_to a 0x35 0x00)) heard (out ++ (point_to a 0x35 0x00 ∷ [])) 5 l (point_to a 0x35 0x00)) (wanted_is s.settings.wanted c e)
             (on o (wrote _) refl (was_written a 0xE7 _ r w (was o)) _ CounterAt _);
       },
     )
-    stays g (c, o) _ _ _ step.counter_read_lem = (c, on2 o (wrote _) refl (was_written a 0xC7 _ r w (was o.opened)) _ CounterRead _)
-    stays g (c, o) _ _ _ step.identity_read_lem = (c, on2 o (got _ w) refl (was_read (register a) r w (was o.opened)) _ IdentityRead _)
-    stays g (c, o) _ _ _ step.flag_at = (c, on2 o (got _ w) refl (was_read (block a 0xAD) r w (was o.opened)) _ FlagAt _)
-    stays g (c, o) _ _ _ step.flag_read_lem = (c, on2 o (wrote _) refl (was_written a 0xC7 _ r w (was o.opened)) _ FlagRead _)
-    stays g (c, o) _ _ _ step.revision_read_lem = (c, on2 o (got _ w) refl (was_read (register a) r w (was o.opened)) _ RevisionRead _)
-    stays g o _ _ _ (step.line_out_lem _ n d l next e _ b _ _) = line_stays g n d l next b o
-    stays g (o, few, polls) _ _ _ (step.status_at_lem h) = (behind o s refl refl refl _ _ _ (omega (arith, few)), polls)
-    stays g (o, polls) _ _ _ step.status_read_lem = (behind o s refl refl refl _ _ _ (omega (arith, polls)), held.polls)
-    stays g (o, p) _ _ _ (step.again h) = (behind o (with_position s (at_polls s.position (s.position.polls + 1))) refl refl refl _ _ _ (omega arith), h)
-    stays g (o, p) _ _ _ step.banks_at_lem = behind o s refl refl refl _ _ _ (omega (arith, p))
-    stays g o _ _ _ step.banks_read_lem = behind o s refl refl refl _ _ _ (omega arith)
-    stays g o _ _ _ (step.restore _ N from_first) = (behind o (with_position s (at_config s.position N)) refl refl refl _ _ _ (omega arith), omega (arith, held.config))
-    stays g (o, h) _ _ _ (step.restore _ N (next_one f)) = (behind o (with_position s (at_config s.position N)) refl refl refl _ _ _ (omega arith), f)
-    stays g (o, h) _ _ _ step.crc_at_lem = (behind o s refl refl refl _ _ _ (omega arith), h)
-    stays g (o, h) _ _ _ step.crc_read_lem = (behind o s refl refl refl _ _ _ (omega arith), h)
+    stays g _ _ _ step.counter_read_lem (c, o) = (c, on2 o (wrote _) refl (was_written a 0xC7 _ r w (was o.opened)) _ CounterRead _)
+    stays g _ _ _ step.identity_read_lem (c, o) = (c, on2 o (got _ w) refl (was_read (register a) r w (was o.opened)) _ IdentityRead _)
+    stays g _ _ _ step.flag_at_lem (c, o) = (c, on2 o (got _ w) refl (was_read (block a 0xAD) r w (was o.opened)) _ FlagAt _)
+    stays g _ _ _ step.flag_read_lem (c, o) = (c, on2 o (wrote _) refl (was_written a 0xC7 _ r w (was o.opened)) _ FlagRead _)
+    stays g _ _ _ step.revision_read_lem (c, o) = (c, on2 o (got _ w) refl (was_read (register a) r w (was o.opened)) _ RevisionRead _)
+    stays g _ _ _ (step.line_out_lem _ n d l next e _ b _ _) o = line_stays g n d l next b o
+    stays g _ _ _ (step.status_at_lem h) (o, few, polls) = (behind o s refl refl refl _ _ _ (omega (arith, few)), polls)
+    stays g _ _ _ step.status_read_lem (o, polls) = (behind o s refl refl refl _ _ _ (omega (arith, polls)), held.polls)
+    stays g _ _ _ (step.again h) (o, p) = (behind o (with_position s (at_polls s.position (s.position.polls + 1))) refl refl refl _ _ _ (omega arith), h)
+    stays g _ _ _ step.banks_at_lem (o, p) = behind o s refl refl refl _ _ _ (omega (arith, p))
+    stays g _ _ _ step.banks_read_lem o = behind o s refl refl refl _ _ _ (omega arith)
+    stays g _ _ _ (step.restore _ N from_first) o = (behind o (with_position s (at_config s.position N)) refl refl refl _ _ _ (omega arith), omega (arith, held.config))
+    stays g _ _ _ (step.restore _ N (next_one f)) (o, h) = (behind o (with_position s (at_config s.position N)) refl refl refl _ _ _ (omega arith), f)
+    stays g _ _ _ step.crc_at_lem (o, h) = (behind o s refl refl refl _ _ _ (omega arith), h)
+    stays g _ _ _ step.crc_read_lem (o, h) = (behind o s refl refl refl _ _ _ (omega arith), h)

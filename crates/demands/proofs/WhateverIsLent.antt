@@ -123,7 +123,7 @@ module _ (s : Session) (rs : List Reply) (out : List Request) (x : Stands s rs o
       rw one
       (record {
         counts = rw (length-append out (q ∷ [])) (omega (arith, k.sent, x.counts));
-        at = stays s rs out c.reply w (held s ok) f c.text g at t next q step;
+        at = stays s rs out c.reply w (held s ok) f c.text g t next q step at;
         burns = burns_on s out ok x.burns c.text w g (subst (QuietAt s) o x.burns.quiet) t next q step;
       })
 

@@ -6,6 +6,7 @@ use crate::parts::length_at;
 use crate::{LENGTH_BYTES, Part};
 
 // Room for a file of 65,600 bytes.
+#[tactic(auto, unfolding(crate::specs::Parts::front_of))]
 pub fn file_in_front(input: &[u8]) -> Part
     ensures { result ≡ front_of input.now }
 {

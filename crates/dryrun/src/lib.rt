@@ -1,4 +1,6 @@
 // A dry run: its input taken apart, and the lines that it writes made into a lent buffer.
+#![tactic(auto)]
+
 mod front;
 mod lines;
 mod parts;

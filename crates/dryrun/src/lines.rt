@@ -9,6 +9,7 @@ use summary::Told;
 use text::{put_bytes, put_decimal, put_hex2};
 
 // Whether it reads, in a word.
+#[tactic(auto, unfolding(crate::specs::Lines::verb, text::specs::Text::bytes_of))]
 fn put_verb(out: &mut [u8], at: usize, reads: bool) -> usize
     ensures { Puts out.old at (verb reads) out.new result }
 {
@@ -20,6 +21,7 @@ fn put_verb(out: &mut [u8], at: usize, reads: bool) -> usize
 }
 
 // The used bytes, of at most eight.
+#[tactic(auto, using(text::proofs::Laws::run_one, text::proofs::Laws::run_more, text::proofs::Laws::puts_none), unfolding(crate::specs::Lines::used_hex))]
 fn put_used(out: &mut [u8], at: usize, bytes: [u8; 8], used: usize) -> usize
     requires { (used ≤ 8) × (at + 16 ≤ length out.old) }
     ensures { Puts out.old at (used_hex bytes used) out.new result }
@@ -34,6 +36,7 @@ fn put_used(out: &mut [u8], at: usize, bytes: [u8; 8], used: usize) -> usize
 }
 
 // A request has eight bytes, also where more are said to be used.
+#[tactic(auto, unfolding(crate::specs::Lines::at_most8))]
 fn at_most_8(used: u8) -> usize
     ensures { result ≡ at_most8 used }
 {
@@ -41,6 +44,7 @@ fn at_most_8(used: u8) -> usize
 }
 
 // The line of a request that was put out.
+#[tactic(auto, using(text::proofs::Laws::run_one, text::proofs::Laws::run_more, text::proofs::Laws::puts_place, crate::proofs::Lengths::at_most_8), unfolding(crate::specs::Lines::request_line))]
 pub fn put_request(out: &mut [u8; 32], q: Request) -> usize
     ensures { Puts out.old 0 (request_line q) out.new result }
 {
@@ -51,6 +55,7 @@ pub fn put_request(out: &mut [u8; 32], q: Request) -> usize
 }
 
 // What a check told.
+#[tactic(auto, using(text::proofs::Laws::run_one, text::proofs::Laws::run_more), unfolding(crate::specs::Lines::checked_line, text::specs::Text::bytes_of))]
 pub fn put_checked(out: &mut [u8; 112], told: Told) -> usize
     ensures { Puts out.old 0 (checked_line told) out.new result }
 {
@@ -64,6 +69,7 @@ pub fn put_checked(out: &mut [u8; 112], told: Told) -> usize
 }
 
 // How the session stands.
+#[tactic(auto, using(text::proofs::Laws::run_one, text::proofs::Laws::run_more), unfolding(crate::specs::Lines::report_line, text::specs::Text::bytes_of))]
 pub fn put_report(out: &mut [u8; 112], report: Report) -> usize
     ensures { Puts out.old 0 (report_line report) out.new result }
 {
@@ -83,6 +89,7 @@ pub fn put_report(out: &mut [u8; 112], report: Report) -> usize
     }
 }
 
+#[tactic(auto, unfolding(crate::specs::Lines::mark, text::specs::Text::bytes_of))]
 fn put_mark(out: &mut [u8], at: usize, burned: bool) -> usize
     ensures { Puts out.old at (mark burned) out.new result }
 {
@@ -94,6 +101,7 @@ fn put_mark(out: &mut [u8], at: usize, burned: bool) -> usize
 }
 
 // The requests put out so far, and whether the burn was one of them.
+#[tactic(auto, using(text::proofs::Laws::run_one, text::proofs::Laws::run_more), unfolding(crate::specs::Lines::count_line, text::specs::Text::bytes_of))]
 pub fn put_count(out: &mut [u8; 64], sent: u32, burned: bool) -> usize
     ensures { Puts out.old 0 (count_line sent burned) out.new result }
 {

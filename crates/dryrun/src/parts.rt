@@ -8,6 +8,7 @@ use session::Settings;
 use tape::replies_whole;
 
 // Two bytes, lowest first.
+#[tactic(auto, unfolding(crate::specs::Parts::pair))]
 fn two(a: u8, b: u8) -> u16
     ensures { result ≡ pair a b }
 {
@@ -15,6 +16,7 @@ fn two(a: u8, b: u8) -> u16
 }
 
 // The four bytes at a place.
+#[tactic(auto, unfolding(crate::specs::Parts::length_at))]
 pub(crate) fn length_at(input: &[u8], at: usize) -> usize
     requires { at + 4 ≤ length input.now }
     ensures { result ≡ length_at input.now at }
@@ -24,6 +26,7 @@ pub(crate) fn length_at(input: &[u8], at: usize) -> usize
     low as usize + 65536 * (high as usize)
 }
 
+#[tactic(auto, unfolding(crate::specs::Parts::header_of, crate::specs::Parts::settings_of))]
 fn header(input: &[u8], file: usize) -> Header
     requires { (file_at ≤ length input.now) × (file ≤ 65600) }
     ensures { result ≡ header_of input.now file }
@@ -41,6 +44,7 @@ fn header(input: &[u8], file: usize) -> Header
 }
 
 // Room for a file of 65,600 bytes and 200,000 bytes of replies.
+#[tactic(auto, unfolding(crate::specs::Parts::input_of))]
 pub fn parse(input: &[u8]) -> Input
     ensures { result ≡ input_of input.now }
 {

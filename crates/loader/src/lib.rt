@@ -1,4 +1,6 @@
 // The entries for the station's C loader, declared in include/tehilgam.h. C passes a slice as a pointer and then a length.
+#![tactic(auto)]
+
 ghost use Rattle.std.specs.Prelude.{◌≡◌};
 ghost use Rattle.pec.specs.Pec.{pec};
 ghost use Rattle.image.specs.Check.{check_of};

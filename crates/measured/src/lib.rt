@@ -1,4 +1,6 @@
 // Entries for bench/ alone: functions of the delivery that C or Rust could not call by themselves. Nothing delivered uses them.
+#![tactic(auto)]
+
 ghost use Rattle.std.specs.Prelude.{◌≡◌};
 ghost use Rattle.pec.specs.Lent.{run_with};
 ghost use Rattle.measured.specs.Replies.{fed_of, sent_after};
@@ -19,6 +21,7 @@ pub extern "C" fn measured_run_with(table: &[u8; 256], register: u8, bytes: &[u8
 }
 
 // The session once it was given so many of the replies from a place of the input on, or those that there are.
+#[tactic(auto, using(tape::proofs::Whole::found_within, crate::proofs::Turns::after_step), unfolding(crate::specs::Replies::fed_by, crate::specs::Replies::fed_of))]
 fn fed(begun: Session, input: &[u8], file: &[u8], from: usize, replies: u32) -> Session
     ensures { result ≡ fed_of input.now file.now replies from begun }
 {
@@ -43,6 +46,7 @@ fn fed(begun: Session, input: &[u8], file: &[u8], from: usize, replies: u32) -> 
 
 // The requests put out in a dry run of which only so many replies are given; 0 where the input is not whole.
 #[unsafe(no_mangle)]
+#[tactic(auto, using(dryrun::proofs::Inside::header_within), unfolding(crate::specs::Replies::sent_after, crate::specs::Replies::sent_by))]
 pub extern "C" fn measured_replies(input: &[u8], replies: u32) -> u32
     ensures { result ≡ sent_after input.now replies }
 {
@@ -62,6 +66,7 @@ pub extern "C" fn measured_replies(input: &[u8], replies: u32) -> u32
 }
 
 // The summary of a production file with this n and k, this place of line 5 and these identifiers.
+#[tactic(auto, unfolding(crate::specs::Begin::summary_with))]
 fn summary_with(lines: u32, configs: u8, line5: usize, ids: &[u8; 8]) -> Summary
     ensures { result ≡ summary_with lines configs line5 ids.now }
 {
@@ -87,6 +92,7 @@ fn summary_with(lines: u32, configs: u8, line5: usize, ids: &[u8; 8]) -> Summary
 
 // The requests that a begin with such a summary puts out: 1, or 0 where it is refused.
 #[unsafe(no_mangle)]
+#[tactic(auto, unfolding(crate::specs::Begin::sent_at_begin))]
 pub extern "C" fn measured_begin(lines: u32, configs: u8, line5: usize, ids: &[u8; 8]) -> u32
     ensures { result ≡ sent_at_begin lines configs line5 ids.now }
 {

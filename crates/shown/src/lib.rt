@@ -1,4 +1,6 @@
 // What the printing program writes of a file (document 01, "The printing program"), made into a lent buffer.
+#![tactic(auto)]
+
 ghost use Rattle.std.specs.Prelude.{◌≡◌, ◌+◌, ◌≤◌, length};
 ghost use Rattle.text.specs.Text.{Puts};
 ghost use Rattle.shown.specs.Shown.{kind_name, row_of, rows_to, head_of, accepted_text, refused_text, shown};
@@ -7,6 +9,7 @@ use counts::{ConfigId, Kind};
 use summary::{FileAnswer, Refusal, Summary};
 use text::{put_bytes, put_decimal, put_hex1, put_hex8};
 
+#[tactic(auto, unfolding(crate::specs::Shown::kind_name, text::specs::Text::bytes_of))]
 fn put_kind(out: &mut [u8], at: usize, kind: Kind) -> usize
     ensures { Puts out.old at (kind_name kind) out.new result }
 {
@@ -17,6 +20,7 @@ fn put_kind(out: &mut [u8], at: usize, kind: Kind) -> usize
 }
 
 // The line of one configuration: its identifier and its CRC.
+#[tactic(auto, using(text::proofs::Laws::run_one, text::proofs::Laws::run_more), unfolding(crate::specs::Shown::row_of))]
 fn put_row(out: &mut [u8], at: usize, id: ConfigId, crc: u32) -> usize
     requires { at + 11 ≤ length out.old }
     ensures { Puts out.old at (row_of id crc) out.new result }
@@ -28,6 +32,7 @@ fn put_row(out: &mut [u8], at: usize, id: ConfigId, crc: u32) -> usize
 }
 
 // The lines of all configurations.
+#[tactic(auto, using(text::proofs::Laws::run_one, text::proofs::Laws::run_more, text::proofs::Laws::puts_none, text::proofs::Laws::puts_place), unfolding(crate::specs::Shown::rows_to))]
 fn put_rows(out: &mut [u8], at: usize, s: Summary) -> usize
     requires { (s.configs ≤ 8) × (at + 88 ≤ length out.old) }
     ensures { Puts out.old at (rows_to s s.configs) out.new result }
@@ -44,6 +49,7 @@ fn put_rows(out: &mut [u8], at: usize, s: Summary) -> usize
 }
 
 // The first line of an accepted file.
+#[tactic(auto, using(text::proofs::Laws::run_one, text::proofs::Laws::run_more), unfolding(crate::specs::Shown::head_of, text::specs::Text::bytes_of))]
 fn put_head(out: &mut [u8], at: usize, s: Summary) -> usize
     requires { at + 72 ≤ length out.old }
     ensures { Puts out.old at (head_of s) out.new result }
@@ -60,6 +66,7 @@ fn put_head(out: &mut [u8], at: usize, s: Summary) -> usize
     put_bytes(out, h, b"\n")
 }
 
+#[tactic(auto, using(text::proofs::Laws::run_one, text::proofs::Laws::run_more, text::proofs::Laws::puts_place), unfolding(crate::specs::Shown::accepted_text))]
 fn put_accepted(out: &mut [u8], s: Summary) -> usize
     requires { (s.configs ≤ 8) × (160 ≤ length out.old) }
     ensures { Puts out.old 0 (accepted_text s) out.new result }
@@ -68,6 +75,7 @@ fn put_accepted(out: &mut [u8], s: Summary) -> usize
     put_rows(out, next, s)
 }
 
+#[tactic(auto, using(text::proofs::Laws::run_one, text::proofs::Laws::run_more), unfolding(crate::specs::Shown::refused_text, text::specs::Text::bytes_of))]
 fn put_refused(out: &mut [u8], r: Refusal) -> usize
     requires { 160 ≤ length out.old }
     ensures { Puts out.old 0 (refused_text r) out.new result }
@@ -83,6 +91,7 @@ fn put_refused(out: &mut [u8], r: Refusal) -> usize
 }
 
 // Writes what the program prints of a file at the start of the buffer, and answers how many bytes that is.
+#[tactic(auto, using(image::proofs::AcceptedHolds::sound), unfolding(crate::specs::Shown::shown, crate::specs::Shown::answer_text))]
 pub fn show(text: &[u8], out: &mut [u8; 160]) -> usize
     ensures { Puts out.old 0 (shown text.now) out.new result }
 {
