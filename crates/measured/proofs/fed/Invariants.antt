@@ -1,0 +1,14 @@
+-- What is left to give leads to the same session as all of it did. A reply that was found lies within the input. Assumes nothing.
+use mathlib.Core.Path.{◌≡◌, refl, sym, ◌∙◌}
+use Prim.Native.Nat.{◌<◌}
+use native.Mathlib.Omega.{arith}
+use Rattle.tape.proofs.Whole.{found_within}
+use Rattle.measured.specs.Replies.{fed_by, fed_of}
+use Rattle.measured.proofs.Turns.{after_step}
+use Rattle.measured.proofs.fed.Given as goal
+
+abbrev pub invariant-loop-left : goal.invariant-loop-left
+invariant-loop-left l = fed_of l.input l.file l.replies l.from l.initial.s ≡ fed_of l.input l.file l.left l.at l.s
+
+abbrev pub decreases-loop-left : goal.decreases-loop-left
+decreases-loop-left l = l.left
