@@ -11,6 +11,7 @@ use summary::Summary;
 pub(crate) const RESTORE: u8 = 0xF2;
 
 impl Reply {
+    #[tactic(auto, using(std::proofs::Common::refl), unfolding(crate::specs::Replies::silent))]
     fn silent() -> Reply
         ensures { result ≡ silent }
     {
@@ -21,6 +22,7 @@ impl Reply {
         }
     }
 
+    #[tactic(auto, using(std::proofs::Common::refl), unfolding(crate::specs::Replies::took))]
     fn took() -> Reply
         ensures { result ≡ took }
     {
@@ -32,6 +34,7 @@ impl Reply {
     }
 
     // To a read of C5: four bytes, lowest first, and the PEC of the address, the command, the read address and these.
+    #[tactic(auto, using(std::proofs::Common::rules), unfolding(crate::specs::Replies::word_reply, bus::specs::Bus::word_bytes))]
     fn word(address: u8, command: u8, w: u32) -> Reply
         ensures { result ≡ word_reply address command w }
     {
@@ -49,6 +52,7 @@ impl Reply {
     }
 
     // To a read of AD or AE: the same with a 4 before the four bytes.
+    #[tactic(auto, using(std::proofs::Common::rules), unfolding(crate::specs::Replies::block_reply, bus::specs::Bus::word_bytes))]
     fn block(address: u8, command: u8, w: u32) -> Reply
         ensures { result ≡ block_reply address command w }
     {
@@ -98,6 +102,7 @@ fn flag_of(kind: Kind) -> u32 {
 }
 
 // The CRC of the configuration with this identifier.
+#[tactic(auto, using(std::proofs::Common::length, std::proofs::Common::arith, std::proofs::Common::rules))]
 fn crc_of(ids: [ConfigId; 8], crcs: [u32; 8], id: u8) -> u32 {
     for i in 0..8usize {
         let held = ids[i];
@@ -152,6 +157,7 @@ impl Regulator {
     }
 
     // What the register that was pointed to shows.
+    #[tactic(auto, using(bus::proofs::Laws::tests), unfolding(crate::specs::Replies::value_of))]
     fn value(self) -> u32
         ensures { result ≡ value_of self }
     {
@@ -177,6 +183,7 @@ impl Regulator {
         0
     }
 
+    #[tactic(auto, using(std::proofs::Common::ap, std::proofs::Common::rules, std::proofs::Common::ne_eqb, bus::proofs::Laws::tests), unfolding(crate::specs::Replies::read_reply))]
     fn read(self, command: u8) -> Reply
         ensures { result ≡ read_reply self command }
     {
@@ -190,6 +197,7 @@ impl Regulator {
         Reply::word(address, command, self.value())
     }
 
+    #[tactic(auto, using(std::proofs::Common::rules, std::proofs::Common::ne_eqb, bus::proofs::Laws::tests), unfolding(crate::specs::Replies::heard_reply))]
     fn answered(self, request: Request) -> Reply
         ensures { result ≡ heard_reply self request }
     {
@@ -248,6 +256,7 @@ impl Regulator {
     }
 
     // The request goes to the device, and its reply comes back. What is for another address it does not hear.
+    #[tactic(auto, using(std::proofs::Common::rules, std::proofs::Common::ne_eqb), unfolding(crate::specs::Replies::device_reply))]
     pub(crate) fn exchange(self, request: Request) -> Carried
         ensures { result.reply ≡ device_reply self request }
     {

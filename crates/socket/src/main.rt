@@ -1,41 +1,46 @@
 // A dry run of a station that checks a file in the morning and begins at the socket with its summary (document 02, R-3): what it would send
 // while it lends the text and gets the replies on standard input, and how the session stands. Each line that it writes is made by
 // `dryrun`, what is checked by `image`, and each request and verdict by `session`.
+#![tactic(auto)]
+
 use bus::Request;
 use dryrun::{FILE_AT, Input, LENGTH_BYTES, Part};
-use libc::{STDIN_FILENO, STDOUT_FILENO};
 use session::{Handed, Session};
 use summary::Told;
 use tape::Found;
 
-fn say_checked(told: Told) {
+#[tactic(auto, using(text::proofs::Laws::puts_inside, text::proofs::Laws::puts_taken))]
+fn say_checked(rt: &impl Print, told: Told) {
     let mut line = [0u8; 112];
     let n = dryrun::put_checked(&mut line, told);
-    io::write_all(STDOUT_FILENO, &line[..n]);
+    let _ = rt.write_all(&line[..n]);
 }
 
 // A request of zeros is none.
-fn say_request(q: Request) {
+#[tactic(auto, using(text::proofs::Laws::puts_inside, text::proofs::Laws::puts_taken))]
+fn say_request(rt: &impl Print, q: Request) {
     if 0 < q.used {
         let mut line = [0u8; 32];
         let n = dryrun::put_request(&mut line, q);
-        io::write_all(STDOUT_FILENO, &line[..n]);
+        let _ = rt.write_all(&line[..n]);
     }
 }
 
-fn say_end(s: Session, report: session::Report) {
+#[tactic(auto, using(text::proofs::Laws::puts_inside, text::proofs::Laws::puts_taken))]
+fn say_end(rt: &impl Print, s: Session, report: session::Report) {
     let mut verdict = [0u8; 112];
     let n = dryrun::put_report(&mut verdict, report);
-    io::write_all(STDOUT_FILENO, &verdict[..n]);
+    let _ = rt.write_all(&verdict[..n]);
     let mut count = [0u8; 64];
     let m = dryrun::put_count(&mut count, s.sent, s.burned);
-    io::write_all(STDOUT_FILENO, &count[..m]);
+    let _ = rt.write_all(&count[..m]);
 }
 
 // One call for each reply from a place on, each with the text that is lent; no input has more replies than bytes.
-fn run(begun: Handed, input: &[u8], text: &[u8], behind: usize) {
+#[tactic(auto, using(tape::proofs::Whole::found_within))]
+fn run(rt: &impl Print, begun: Handed, input: &[u8], text: &[u8], behind: usize) {
     let mut handed = begun;
-    say_request(handed.request);
+    say_request(rt, handed.request);
     let mut at = behind;
     let mut left = input.len();
     while 0 < left {
@@ -47,32 +52,34 @@ fn run(begun: Handed, input: &[u8], text: &[u8], behind: usize) {
             Found::Reply(kind, start, end) => {
                 let s = handed.session;
                 handed = s.reply(text, kind, &input[start..end]);
-                say_request(handed.request);
+                say_request(rt, handed.request);
                 at = end;
             }
         }
     }
     let last = handed.session;
     let answer = handed.answer;
-    say_end(last, answer.report());
+    say_end(rt, last, answer.report());
 }
 
 // The morning's check, and behind it the socket: the text that is lent may be another than the file that was checked.
-fn at_the_socket(file: &[u8], input: &[u8]) {
+#[tactic(auto, using(dryrun::proofs::Inside::header_within))]
+fn at_the_socket(rt: &impl Print, file: &[u8], input: &[u8]) {
     match dryrun::parse(input) {
         Input::CutShort => {
-            io::write_all(STDOUT_FILENO, b"cut short\n");
+            let _ = rt.write_all(b"cut short\n");
         }
         Input::TooLong => {
-            io::write_all(STDOUT_FILENO, b"too long\n");
+            let _ = rt.write_all(b"too long\n");
         }
         Input::Whole(header) => {
             let settings = header.settings;
             let behind = header.behind;
             let checked = image::check(file);
             let answer = checked.answer;
-            say_checked(answer.told());
+            say_checked(rt, answer.told());
             run(
+                rt,
                 settings.begin_with(checked.summary),
                 input,
                 &input[FILE_AT..behind],
@@ -82,18 +89,19 @@ fn at_the_socket(file: &[u8], input: &[u8]) {
     }
 }
 
-fn main() {
+#[tactic(auto, using(dryrun::proofs::Inside::front_within))]
+fn main(rt: HostRuntime) {
     // One byte more than there is room for, so that a longer input is seen to be longer.
     let mut space = [0u8; 331215];
-    let n = io::read_full(STDIN_FILENO, &mut space);
+    let n = streams::fill(&mut rt.reader(), &mut space);
     let input = &space[..n];
     match dryrun::file_in_front(input) {
         Part::CutShort => {
-            io::write_all(STDOUT_FILENO, b"cut short\n");
+            let _ = rt.write_all(b"cut short\n");
         }
         Part::TooLong => {
-            io::write_all(STDOUT_FILENO, b"too long\n");
+            let _ = rt.write_all(b"too long\n");
         }
-        Part::Whole(behind) => at_the_socket(&input[LENGTH_BYTES..behind], &input[behind..]),
+        Part::Whole(behind) => at_the_socket(&rt, &input[LENGTH_BYTES..behind], &input[behind..]),
     }
 }

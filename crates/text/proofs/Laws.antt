@@ -191,3 +191,11 @@ puts_within {before} {bs} {after} {at} {next} p h =
     let room : at + length bs ≤ length before = leb-true (at + length bs) (length before) t in
     omega (arith, p.place, behind_fits before at bs room))
     (λ t. omega (arith, p.place, behind_not before at bs (leb-false (at + length bs) (length before) t)))
+
+-- what is put from within the buffer ends within it
+pub puts_inside : {before bs after : List ℕ} {at next : ℕ} → Puts before at bs after next → at ≤ length before → next ≤ length after
+puts_inside p h = omega (arith, puts_within p h, puts-length p)
+
+-- and is as long as it says
+pub puts_taken : {before bs after : List ℕ} {at next : ℕ} → Puts before at bs after next → at ≤ length before → next ≡ length (take next after)
+puts_taken {after = after} {next = next} p h = sym (length-take-le next after (puts_inside p h))

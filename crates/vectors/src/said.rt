@@ -1,61 +1,60 @@
 // What a call of the session handed back, on one line: number, N, line and place, or that a reply is awaited; the request; count and burn.
 use bus::Request;
-use libc::STDOUT_FILENO;
 use session::{Handed, Report};
 
-pub(crate) fn say(words: &[u8]) {
-    io::write_all(STDOUT_FILENO, words);
+pub(crate) fn say(rt: &impl Print, words: &[u8]) {
+    let _ = rt.write_all(words);
 }
 
-fn say_count(words: &[u8], number: u64) {
-    say(words);
-    io::print_decimal(STDOUT_FILENO, number);
+fn say_count(rt: &impl Print, words: &[u8], number: u64) {
+    say(rt, words);
+    let _ = rt.print(number);
 }
 
-fn say_report(report: Report) {
+fn say_report(rt: &impl Print, report: Report) {
     match report {
-        Report::Waiting => say(b"waiting"),
+        Report::Waiting => say(rt, b"waiting"),
         Report::Is(told) => {
-            io::print_decimal(STDOUT_FILENO, told.number as u64);
-            say_count(b" config ", told.config.0 as u64);
-            say_count(b" line ", told.line.0 as u64);
-            say_count(b" at ", told.place.0 as u64);
+            let _ = rt.print(told.number as u64);
+            say_count(rt, b" config ", told.config.0 as u64);
+            say_count(rt, b" line ", told.line.0 as u64);
+            say_count(rt, b" at ", told.place.0 as u64);
         }
     }
 }
 
 // All eight, used or not.
-fn say_bytes(bytes: [u8; 8]) {
+fn say_bytes(rt: &impl Print, bytes: [u8; 8]) {
     for i in 0..8usize {
         let mut digits = [0u8; 2];
         text::put_hex2(&mut digits, 0, bytes[i]);
-        say(&digits);
+        say(rt, &digits);
     }
 }
 
-fn say_request(q: Request) {
+fn say_request(rt: &impl Print, q: Request) {
     let bytes = q.bytes;
-    say(b" request ");
-    say_bytes(bytes);
-    say_count(b" used ", q.used as u64);
+    say(rt, b" request ");
+    say_bytes(rt, bytes);
+    say_count(rt, b" used ", q.used as u64);
     if q.reads {
-        say(b" reads");
+        say(rt, b" reads");
     } else {
-        say(b" writes");
+        say(rt, b" writes");
     }
 }
 
-pub(crate) fn say_handed(words: &[u8], handed: Handed) {
+pub(crate) fn say_handed(rt: &impl Print, words: &[u8], handed: Handed) {
     let answer = handed.answer;
     let s = handed.session;
-    say(words);
-    say(b": ");
-    say_report(answer.report());
-    say_request(handed.request);
-    say_count(b", count ", s.sent as u64);
+    say(rt, words);
+    say(rt, b": ");
+    say_report(rt, answer.report());
+    say_request(rt, handed.request);
+    say_count(rt, b", count ", s.sent as u64);
     if s.burned {
-        say(b" burn 1\n");
+        say(rt, b" burn 1\n");
     } else {
-        say(b" burn 0\n");
+        say(rt, b" burn 0\n");
     }
 }

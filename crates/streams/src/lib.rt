@@ -1,0 +1,21 @@
+// What the programs read: the bytes of a stream into a lent buffer.
+#![tactic(auto)]
+
+ghost use Rattle.std.specs.Prelude.{◌≤◌, length};
+
+use std::io::Read;
+
+// Reads until the buffer is full, the stream ends or a read fails, and answers how many bytes now stand at the buffer's start.
+pub fn fill<R: Read>(from: &mut R, space: &mut [u8]) -> usize
+    ensures { result ≤ length space.new }
+{
+    let mut done: usize = 0;
+    while done < space.len() {
+        match from.read(&mut space[done..]) {
+            Ok(0) => break,
+            Ok(n) => done += n,
+            Err(_) => break,
+        }
+    }
+    done
+}
