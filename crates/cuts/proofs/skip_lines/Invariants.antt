@@ -1,10 +1,8 @@
 -- The place behind the lines is the same from each line passed. Assumes nothing.
-use mathlib.Core.Path.{◌≡◌, refl, ◌∙◌}
+use mathlib.Core.Path.{◌≡◌}
 use Prim.Native.Nat.{◌+◌}
-use native.Mathlib.Omega.{arith}
 use lib.ListN.{drop}
 use Rattle.cuts.specs.Lines.{place_of}
-use Rattle.cuts.proofs.FirstLine.{place_on, place_none}
 use Rattle.cuts.proofs.skip_lines.Given as goal
 
 abbrev pub invariant-loop-left : goal.invariant-loop-left

@@ -1,5 +1,5 @@
 -- The run of digits is cut off, and what follows it decides. Assumes nothing.
-use Rattle.std.proofs.Common.{◌≡◌, ℕ, ◌+◌, ◌-◌, ◌∙◌, sym, ap, arith, rules, length, take, drop, length-drop}
+use Rattle.std.proofs.Common.{◌≡◌, ℕ, ◌+◌, ◌-◌, ◌∙◌, sym, ap, arith, length, take, drop, length-drop}
 use lib.Seq.{length-take-le}
 use Rattle.line.specs.Digits.{digit_by}
 use Rattle.line.specs.Places.{fault_at}

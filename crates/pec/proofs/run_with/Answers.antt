@@ -1,5 +1,5 @@
 -- A turn is one more byte. Assumes nothing.
-use Rattle.std.proofs.Common.{◌<◌, ◌∙◌, length, arith, rules}
+use Rattle.std.proofs.Common.{◌<◌, ◌∙◌, length, rules}
 use Rattle.pec.proofs.Laws.{run_with-take}
 use Rattle.pec.proofs.run_with.Goals as goal
 

@@ -1,10 +1,8 @@
 -- Before turn i the register is that of the first i bytes. Assumes nothing.
-use mathlib.Core.Path.{◌≡◌, ◌∙◌, refl}
-use Prim.Native.Nat.{◌<◌, ◌≤◌, ◌-◌}
+use mathlib.Core.Path.{◌≡◌}
+use Prim.Native.Nat.{◌≤◌}
 use lib.ListN.{length, take}
-use lib.Seq.{take-length}
 use Rattle.pec.specs.Lent.{run_with}
-use Rattle.pec.proofs.Laws.{run_with-take}
 use Rattle.pec.proofs.run_with.Given as goal
 
 abbrev pub invariant-loop-i : goal.invariant-loop-i

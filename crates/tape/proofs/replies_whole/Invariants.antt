@@ -1,9 +1,7 @@
 -- What is left to look at answers for the whole. Assumes nothing.
-use mathlib.Core.Path.{◌≡◌, refl, sym, ◌∙◌}
-use Prim.Native.Nat.{◌<◌}
+use mathlib.Core.Path.{◌≡◌}
 use lib.ListN.{length}
-use Rattle.tape.specs.Replies.{whole_by, whole_replies}
-use Rattle.tape.proofs.Whole.{whole_step}
+use Rattle.tape.specs.Replies.{whole_replies}
 use Rattle.tape.proofs.replies_whole.Given as goal
 
 abbrev pub invariant-loop-left : goal.invariant-loop-left

@@ -1,5 +1,5 @@
 -- A turn is one more byte at its place. Assumes nothing.
-use Rattle.std.proofs.Common.{◌≡◌, ◌∙◌, ◌+◌, ◌<◌, ◌≤◌, length, arith, rules, add-one}
+use Rattle.std.proofs.Common.{◌≡◌, ◌∙◌, ◌+◌, ◌<◌, ◌≤◌, length, rules, add-one}
 use Rattle.std.proofs.Math.ListN.{length-set}
 use lib.Seq.{paste-suc, take-length}
 use Rattle.text.proofs.Laws.{put_fits, behind_fits}

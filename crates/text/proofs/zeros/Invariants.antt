@@ -1,10 +1,8 @@
 -- The zeros of the whole are those passed, and those from i on. Assumes nothing.
 use mathlib.Core.Path.{◌≡◌}
-use Prim.Native.Nat.{◌+◌, ◌-◌, ◌≤◌, ◌<◌}
-use native.Mathlib.Omega.{arith}
+use Prim.Native.Nat.{◌+◌, ◌-◌, ◌≤◌}
 use lib.ListN.{length, drop}
 use Rattle.text.specs.Text.{zeros_before}
-use Rattle.text.proofs.Laws.{zeros_on, zeros_stop, zeros_last}
 use Rattle.text.proofs.zeros.Given as goal
 
 abbrev pub invariant-loop-i : goal.invariant-loop-i

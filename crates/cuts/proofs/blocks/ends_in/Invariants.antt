@@ -1,12 +1,8 @@
 -- The ends so far and those from here on. Assumes nothing.
 use mathlib.Core.Path.{◌≡◌}
-use mathlib.Core.Logic.{⊎_elim}
 use Prim.Native.Nat.{◌+◌, ◌-◌, ◌≤◌}
-use native.Mathlib.Omega.{arith}
 use lib.ListN.{length, drop}
-use borrow.Author.Tests.{eq-eqb, ne_eqb}
 use Rattle.cuts.specs.Private.Blocks.{line_ends}
-use Rattle.cuts.proofs.BlockCounts.{ends_lf, ends_other, ends_past}
 use Rattle.cuts.proofs.blocks.ends_in.Given as goal
 
 abbrev pub invariant-loop-i : goal.invariant-loop-i

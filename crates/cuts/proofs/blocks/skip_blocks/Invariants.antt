@@ -1,13 +1,8 @@
 -- The place behind the lines is the same from each block passed. Assumes nothing.
-use mathlib.Core.Path.{◌≡◌, refl, ap, ◌∙◌}
-use Prim.Native.Nat.{ℕ, ◌+◌, ◌-◌, ◌≤◌}
-use native.Mathlib.Omega.{arith}
-use lib.ListN.{length, take, drop, length-take}
-use borrow.Author.Tests.{leb-true}
+use mathlib.Core.Path.{◌≡◌}
+use Prim.Native.Nat.{◌+◌, ◌-◌}
+use lib.ListN.{length, drop}
 use Rattle.cuts.specs.Lines.{place_of}
-use Rattle.cuts.specs.Private.Blocks.{line_ends}
-use Rattle.promise.proofs.Basics.{via}
-use Rattle.cuts.proofs.BlockCounts.{skip_block}
 use Rattle.cuts.proofs.blocks.skip_blocks.Given as goal
 
 abbrev pub invariant-loop-ends : goal.invariant-loop-ends

@@ -1,12 +1,8 @@
 -- The text is digits where the rest is. Assumes nothing.
-use mathlib.Core.Path.{◌≡◌, refl, sym, ◌∙◌}
-use mathlib.Core.Bool.{true, false}
+use mathlib.Core.Path.{◌≡◌}
 use Prim.Native.Nat.{◌-◌}
-use native.Mathlib.Omega.{arith}
-use lib.ListN.{length, get_or, drop}
-use borrow.Author.Tests.{lt-ltb, le-ltb}
-use Rattle.line.specs.Digits.{digit_by, is_digit, all_digits}
-use Rattle.line.proofs.LineParts.{digits_on, digits_stop, digits_past}
+use lib.ListN.{length, drop}
+use Rattle.line.specs.Digits.{digit_by, all_digits}
 use Rattle.line.proofs.usual.all_digits.Given as goal
 
 abbrev pub invariant-loop-i : goal.invariant-loop-i

@@ -1,13 +1,11 @@
 -- The code from the start is the code from here with the register. Assumes nothing.
-use mathlib.Core.Path.{◌≡◌, refl, sym, ◌∙◌}
+use mathlib.Core.Path.{◌≡◌}
 use Prim.Native.Nat.{◌+◌, ◌-◌, ◌/◌, ◌≤◌}
-use native.Mathlib.Omega.{arith}
 use lib.ListN.{length}
 use lib.Seq.{slice}
 use Rattle.pec.specs.Lent.{run_with}
 use Rattle.line.specs.Digits.{digit_by, values_of}
 use Rattle.line.specs.Reading.{covered_of}
-use Rattle.line.proofs.LineParts.{values_length, code_on, code_end}
 use Rattle.line.proofs.values.crc_of.Given as goal
 
 abbrev pub invariant-loop-i : goal.invariant-loop-i
