@@ -1,17 +1,11 @@
-# What the scripts share, for `. tools/kit.sh` from the repository's root: the Rattle kit, found from `rt`, and how its x86-64
-# programs and archives are run and linked on this machine. POSIX sh.
+# What the scripts share, for `. tools/kit.sh` from the repository's root: the Rattle kit, what it builds and where that lies, and how
+# the outside judges are built. POSIX sh.
 
 complain() { printf 'tehilgam: %s\n' "$*" >&2; }
 
-# Sets the kit's folders, or says what is missing.
+# Whether the kit's command is there.
 find_kit() {
     command -v rt >/dev/null 2>&1 || { complain "the Rattle kit is missing: no 'rt' on the PATH"; return 1; }
-    kit=${RATTLE_HOME:-$(dirname "$(dirname "$(readlink -f "$(command -v rt)")")")}
-    kit_own=$kit/on/$(uname -m)
-    kit_tools=$kit_own/toolchain
-    [ -d "$kit_tools" ] || { complain "the kit at $kit has no toolchain for this machine, $(uname -m)"; return 1; }
-    kit_emulator=$kit_tools/bin/qemu-x86_64
-    [ -x "$kit_emulator" ] || kit_emulator=''
 }
 
 install_package() { # PACKAGE
@@ -26,39 +20,39 @@ need() { # COMMAND PACKAGE
     command -v "$1" >/dev/null 2>&1 || { complain "$1 is missing, and the package $2 could not be installed"; return 1; }
 }
 
-# Runs an x86-64 program under the kit's loader and C library, on another processor under its emulator.
-run_x86() { # PROGRAM [WORDS...]
-    ${kit_emulator:+"$kit_emulator"} "$kit_tools/lib/ld-linux-x86-64.so.2" --library-path "$kit_tools/lib" "$@"
+# Where a program and a static library lie once they are proved and built: both are for x86-64 Linux, and run as they are.
+program_of() { printf 'crates/%s/out/%s\n' "$1" "$1"; } # NAME
+archive_of() { printf 'crates/%s/out/lib%s.a\n' "$1" "$1"; } # NAME
+
+# Whether a file is there and no source of a crate changed since.
+is_newest() { # FILE
+    [ -s "$1" ] && [ -z "$(find crates.txt crates/*/src crates/*/specs crates/*/proofs -newer "$1" | head -n 1)" ]
 }
 
-# The words by which run_x86 starts a program, one to a line, for a caller that is no shell.
-x86_words() {
-    [ -z "$kit_emulator" ] || printf '%s\n' "$kit_emulator"
-    printf '%s\n' "$kit_tools/lib/ld-linux-x86-64.so.2" --library-path "$kit_tools/lib"
+# Proves and builds a crate where what it makes is missing or of older sources. Its time is then that of the look at the sources, so
+# that a source which changes meanwhile is seen the next time.
+build() { # NAME MADE COMMAND
+    is_newest "$2" && return 0
+    echo "building $1: it is proved first, which takes some minutes where its sources are new" >&2
+    mkdir -p target
+    : >"target/build-$1.began"
+    (cd "crates/$1" && $3) >"target/build-$1.log" 2>&1 && [ -s "$2" ] ||
+        { complain "$1 could not be built: target/build-$1.log says why"; return 1; }
+    touch -r "target/build-$1.began" "$2"
 }
 
-# Compiles one C file for x86-64 and links it with an archive that `rt staticlib` wrote. On another processor the kit's clang
-# compiles it, with the headers of this machine's C compiler, and the kit's linker and C library link it.
+# rt builds a program to run it: it runs on its crate's own input here.
+run_on_stdin() { rt run <stdin; }
+
+build_program() { build "$1" "$(program_of "$1")" run_on_stdin; } # NAME
+build_archive() { build "$1" "$(archive_of "$1")" 'rt lib'; } # NAME
+
+# Compiles one C file and links it with an archive that `rt lib` wrote.
 link_c() { # OUT SOURCE ARCHIVE
     need gcc gcc || return 1
     [ -f /usr/include/stdio.h ] || install_package libc6-dev
-    if [ "$(uname -m)" = x86_64 ]; then
-        gcc -std=c11 -O2 -Wall -Wextra -Iinclude -o "$1" "$2" "$3"
-    else
-        "$kit_tools/bin/clang" --target=x86_64-unknown-linux-gnu -std=c11 -O2 -Wall -Wextra -fPIC -nostdinc -Iinclude \
-            -isystem "$(gcc -print-file-name=include)" -isystem "/usr/include/$(gcc -dumpmachine)" -isystem /usr/include \
-            -c "$2" -o "$1.o" &&
-            "$kit_own/bin/rattle-link" --target x86_64-unknown-linux-gnu --toolchain "$kit_tools" -o "$1" "$1.o" "$3"
-    fi
+    gcc -std=c11 -O2 -Wall -Wextra -Iinclude -o "$1" "$2" "$3"
 }
-
-# Runs what link_c made: on x86-64 by itself, elsewhere as every program of the kit.
-run_c() { # PROGRAM [WORDS...]
-    if [ "$(uname -m)" = x86_64 ]; then "$@"; else run_x86 "$@"; fi
-}
-
-# The words by which run_c starts a program, as x86_words.
-c_words() { [ "$(uname -m)" = x86_64 ] || x86_words; }
 
 # Whether a program of target/tests was built since its sources changed last.
 is_built() { # NAME SOURCES...
@@ -87,27 +81,11 @@ build_judge() {
 
 # Links the C driver of the two entries with the delivered archive, where one of their sources is new.
 build_entries() {
-    is_built entries crates crates.txt include tests/judge/entries.c && return 0
+    build_archive loader || return 1
+    is_built entries "$(archive_of loader)" include tests/judge/entries.c && return 0
     mkdir -p target/tests
     : >target/tests/entries.began
-    { rt staticlib loader && link_c target/tests/entries tests/judge/entries.c target/staticlib/libloader.a; } >target/tests/entries.log 2>&1 ||
+    link_c target/tests/entries tests/judge/entries.c "$(archive_of loader)" >target/tests/entries.log 2>&1 ||
         { cat target/tests/entries.log; return 1; }
     mv target/tests/entries.began target/tests/entries.built
-}
-
-# Runs the driver, which starts the delivered programs by these words.
-run_judge() { # WORDS...
-    JUDGE_X86=$(x86_words) JUDGE_C=$(c_words) target/tests/judge "$@"
-}
-
-# Proves and builds a program of the house where target/ does not have it or has it from older sources. Its time is then that of
-# the look at the sources, so that a source which changes meanwhile is seen the next time.
-build_program() { # NAME
-    if [ -x "target/bin/$1" ] && [ -z "$(find crates crates.txt -newer "target/bin/$1" | head -n 1)" ]; then return 0; fi
-    echo "building $1: it is proved first, which takes some minutes where its sources are new" >&2
-    mkdir -p target
-    : >"target/build-$1.began"
-    rt check "$1" >"target/build-$1.log" 2>&1 && [ -x "target/bin/$1" ] ||
-        { complain "$1 could not be built: target/build-$1.log says why"; return 1; }
-    touch -r "target/build-$1.began" "target/bin/$1"
 }

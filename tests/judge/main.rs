@@ -1,8 +1,7 @@
 //! The driver: compares what is delivered with the second program, and makes the cases for it.
 //!
-//! It stands at the repository's root, and tools/kit.sh's `run_judge` tells it how a delivered
-//! program is started. Exit status: 0 none differs, 1 one differs or too little was seen,
-//! 2 something is missing or the words are off.
+//! It is started at the repository's root. Exit status: 0 none differs, 1 one differs or too
+//! little was seen, 2 something is missing or the words are off.
 
 mod changes;
 mod difference;

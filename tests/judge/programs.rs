@@ -1,43 +1,37 @@
-//! How what is delivered is started on this machine, which tools/kit.sh knows: the words in
-//! JUDGE_X86, one to a line, start an x86-64 program, those in JUDGE_C a linked C program.
+//! Where what is delivered lies, and how it is started: tools/kit.sh builds it.
 
-use std::env;
 use std::io::{self, Write};
 use std::path::Path;
 use std::process::{Command, Stdio};
 use std::thread;
 
-/// A program with the words that start it.
+/// A program, by its path.
 pub struct Program {
-    words: Vec<String>,
+    path: String,
 }
 
 impl Program {
     /// A delivered program, a process for each case.
     pub fn delivered(name: &str) -> Result<Program, String> {
-        Program::started_by("JUDGE_X86", &format!("target/bin/{name}"))
+        Program::at(format!("crates/{name}/out/{name}"))
     }
 
     /// The C driver, which is linked with the delivered archive.
     pub fn of_entries() -> Result<Program, String> {
-        Program::started_by("JUDGE_C", "target/tests/entries")
+        Program::at("target/tests/entries".to_string())
     }
 
-    fn started_by(variable: &str, path: &str) -> Result<Program, String> {
-        let words = env::var(variable)
-            .map_err(|_| format!("{variable} does not say how {path} is started"))?;
-        let words: Vec<String> = words.lines().chain([path]).map(str::to_string).collect();
-        let mut paths = words.iter().filter(|word| !word.starts_with('-'));
-        match paths.find(|word| !Path::new(word).exists()) {
-            Some(word) => Err(format!("there is no {word}")),
-            None => Ok(Program { words }),
+    fn at(path: String) -> Result<Program, String> {
+        if Path::new(&path).exists() {
+            Ok(Program { path })
+        } else {
+            Err(format!("there is no {path}"))
         }
     }
 
     /// The command, with pipes for its input and its output.
     pub fn command(&self) -> Command {
-        let mut command = Command::new(&self.words[0]);
-        command.args(&self.words[1..]);
+        let mut command = Command::new(&self.path);
         command.stdin(Stdio::piped()).stdout(Stdio::piped());
         command
     }
