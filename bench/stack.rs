@@ -8,18 +8,10 @@ const PATTERN: u8 = 0xA5;
 
 type Entry = unsafe extern "C" fn(*const u8, usize, u32) -> u32;
 
-#[cfg(target_arch = "x86_64")]
 unsafe fn call_on(top: *mut u8, entry: Entry, text: &[u8], word: u32) {
     asm!("mov r12, rsp", "mov rsp, r13", "call r14", "mov rsp, r12",
         out("r12") _, in("r13") top, in("r14") entry,
         inout("rdi") text.as_ptr() => _, inout("rsi") text.len() => _, inout("edx") word => _, clobber_abi("C"));
-}
-
-#[cfg(target_arch = "aarch64")]
-unsafe fn call_on(top: *mut u8, entry: Entry, text: &[u8], word: u32) {
-    asm!("mov x20, sp", "mov sp, x21", "blr x22", "mov sp, x20",
-        out("x20") _, in("x21") top, in("x22") entry,
-        inout("x0") text.as_ptr() => _, inout("x1") text.len() => _, inout("w2") word => _, clobber_abi("C"));
 }
 
 fn used(entry: Entry, text: &[u8], word: u32) -> usize {
