@@ -1,8 +1,8 @@
 /* A station's loader in C, on the two entries of include/tehilgam.h. It lets no file through that tehilgam_refusal refuses, puts
  * the PEC behind a write request, and believes a read's reply only where its PEC is right. From the repository's root, on x86-64:
  *
- *     rt staticlib loader
- *     cc -Iinclude -o loader examples/loader.c target/staticlib/libloader.a
+ *     (cd crates/loader && rt lib)
+ *     cc -Iinclude -o loader examples/loader.c crates/loader/out/libloader.a
  *     ./loader examples/production.hex
  *
  * Exit status: 0 accepted, 1 refused, 2 no file, or one that cannot be read. docs/NUMBERS.md says what each number means.

@@ -1,4 +1,4 @@
-/* The two entries of libloader.a, the archive that `rt staticlib loader` writes for x86-64 Linux.
+/* The two entries of libloader.a, the archive that `rt lib` writes in crates/loader for x86-64 Linux.
  *
  * Both are pure: they keep no state, call nothing, allocate nothing, write no memory of the caller's, and may be called from
  * several threads at once. They read exactly the bytes that they are given and return for every content and every length.
