@@ -6,7 +6,7 @@ from collections import namedtuple
 Function = namedtuple("Function", "path crate of name takes requires ensures")
 
 # a block that methods stand in, its end, or the head of a public function up to its parameters
-PARTS = re.compile(r'^(?:impl (\w+)|(\})|\s*pub (?:extern "C" )?fn (\w+)\()', re.M)
+PARTS = re.compile(r'^(?:impl (\w+)|(\})|\s*pub (?:extern "C" )?fn (\w+)(?:<[^(]*>)?\()', re.M)
 
 
 def parameters(words, holder):
