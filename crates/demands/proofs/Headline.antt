@@ -12,7 +12,7 @@ use Rattle.image.proofs.LinesAndBytes.{spelled-length}
 use Rattle.image.proofs.MeetsPass.{spelled_of}
 use Rattle.bus.specs.declared.Request.{Request}
 use Rattle.guide.specs.Plan.{Reply, file_line, Asked, Plan, requests, bare}
-use Rattle.guide.specs.Guide.{lines, write_lines_of, guide_for, target_of}
+use Rattle.guide.specs.Guide.{write_lines_of, guide_for, target_of}
 use Rattle.guide.specs.Matched.{Matched, asked_in, opening}
 use Rattle.guide.specs.Statements.{burns_in, before_burn, spellings, SpelledOnce, AllInForm}
 use Rattle.guide.proofs.Through.{asked}

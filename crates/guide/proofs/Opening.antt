@@ -5,7 +5,6 @@ use mathlib.Core.List.{[]}
 use Prim.Native.Nat.{ℕ}
 use Rattle.summary.specs.declared.Summary.{Summary}
 use Rattle.guide.specs.declared.Fit.{Fit}
-use Rattle.guide.specs.declared.Fit.TheVariants as fit
 use Rattle.guide.specs.Judged.{fit_of}
 use Rattle.guide.specs.Plan.{Plan}
 use Rattle.guide.specs.Guide.{gate, step1, step2, target_of}

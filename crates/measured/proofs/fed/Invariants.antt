@@ -1,10 +1,6 @@
 -- What is left to give leads to the same session as all of it did. A reply that was found lies within the input. Assumes nothing.
-use mathlib.Core.Path.{◌≡◌, refl, sym, ◌∙◌}
-use Prim.Native.Nat.{◌<◌}
-use native.Mathlib.Omega.{arith}
-use Rattle.tape.proofs.Whole.{found_within}
-use Rattle.measured.specs.Replies.{fed_by, fed_of}
-use Rattle.measured.proofs.Turns.{after_step}
+use mathlib.Core.Path.{◌≡◌}
+use Rattle.measured.specs.Replies.{fed_of}
 use Rattle.measured.proofs.fed.Given as goal
 
 abbrev pub invariant-loop-left : goal.invariant-loop-left

@@ -1,13 +1,7 @@
 -- Before turn i the first i bytes stand there. Assumes nothing.
 use Prim.Native.Nat.{◌-◌, ◌≤◌}
-use mathlib.Core.Path.{◌≡◌}
-use native.Mathlib.Omega.{arith}
-use native.Mathlib.Numerals.{add-one}
-use lib.ListN.{length-append}
 use Rattle.text.specs.Text.{Puts}
-use Rattle.text.proofs.Laws.{run_one, run_more, puts_none, puts-length, digits-length}
 use Rattle.dryrun.specs.Lines.{used_hex}
-use Rattle.dryrun.proofs.Lengths.{used-length}
 use Rattle.dryrun.proofs.lines.put_used.Given as goal
 
 abbrev pub invariant-loop-i : goal.invariant-loop-i

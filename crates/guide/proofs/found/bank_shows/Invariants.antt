@@ -1,10 +1,6 @@
 -- After n turns the rest is the register above its n lowest banks. Assumes nothing.
 use mathlib.Core.Path.{◌≡◌}
-use Prim.Native.Nat.{◌-◌, ◌/◌, ◌^◌, ◌≤◌}
-use native.Mathlib.Nat.{pow-zero}
-use native.Mathlib.Omega.{arith}
-use Rattle.guide.specs.Judged.{bank_in}
-use Rattle.guide.proofs.Banks.{above_on}
+use Prim.Native.Nat.{◌/◌, ◌^◌, ◌≤◌}
 use Rattle.guide.proofs.found.bank_shows.Given as goal
 
 abbrev pub invariant-loop-lower : goal.invariant-loop-lower

@@ -1,11 +1,8 @@
 -- The banks passed are right. Assumes nothing.
-use mathlib.Core.Path.{◌≡◌, refl, sym}
+use mathlib.Core.Path.{◌≡◌}
 use mathlib.Core.Bool.{true}
 use Prim.Native.Nat.{◌-◌, ◌≤◌}
-use native.Mathlib.Omega.{arith}
-use Rattle.promise.proofs.Basics.{via}
-use Rattle.guide.specs.Judged.{every_below, bank_right, banks_right}
-use Rattle.guide.proofs.Banks.{every_on, every_stop}
+use Rattle.guide.specs.Judged.{every_below, bank_right}
 use Rattle.guide.proofs.found.banks_right.Given as goal
 
 abbrev pub invariant-loop-b : goal.invariant-loop-b

@@ -1,11 +1,8 @@
 -- None of the configurations passed reports in this bank. Assumes nothing.
-use mathlib.Core.Path.{◌≡◌, refl, ap, sym, ◌∙◌}
+use mathlib.Core.Path.{◌≡◌}
 use mathlib.Core.Bool.{false}
-use Prim.Native.Nat.{◌-◌, ◌≤◌}
-use native.Mathlib.Omega.{arith}
-use Rattle.counts.specs.declared.Bank.{Bank}
+use Prim.Native.Nat.{◌≤◌}
 use Rattle.guide.specs.Judged.{reports_in}
-use Rattle.guide.proofs.Banks.{reports_below, reports_on}
 use Rattle.guide.proofs.found.reports_in.Given as goal
 
 abbrev pub invariant-loop-n : goal.invariant-loop-n

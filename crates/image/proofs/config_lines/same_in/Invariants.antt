@@ -1,12 +1,8 @@
 -- No equal pair is among those passed. Assumes nothing.
-use mathlib.Core.Path.{◌≡◌, refl, sym, ◌∙◌}
+use mathlib.Core.Path.{◌≡◌}
 use mathlib.Core.Bool.{false}
-use Prim.Native.Nat.{◌-◌, ◌≤◌}
-use native.Mathlib.Omega.{arith}
-use borrow.Author.Tests.{eq-eqb, ne_eqb}
-use Rattle.image.specs.Tests.{some_below}
+use Prim.Native.Nat.{◌≤◌}
 use Rattle.image.specs.Private.Walk.{same_at, same_in}
-use Rattle.image.proofs.Pairs.{at_on, in_on, in_found}
 use Rattle.image.proofs.config_lines.same_in.Given as goal
 
 abbrev pub invariant-loop-j : goal.invariant-loop-j

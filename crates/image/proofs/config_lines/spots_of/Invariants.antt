@@ -1,13 +1,9 @@
 -- After n turns the spots are those of the first n configurations. Assumes nothing.
-use mathlib.Core.Path.{◌≡◌, ap, ◌∙◌}
-use Prim.Native.Nat.{◌-◌, ◌*◌, ◌≤◌}
-use native.Mathlib.Omega.{arith}
-use native.Mathlib.Numerals.{add-one}
+use mathlib.Core.Path.{◌≡◌}
+use Prim.Native.Nat.{◌*◌, ◌≤◌}
 use Rattle.counts.specs.Counts.{step_of}
 use Rattle.cuts.specs.Lines.{place_of}
-use Rattle.image.specs.declared.Marked.{Marked}
 use Rattle.image.specs.Private.Walk.{spots_to}
-use Rattle.image.proofs.SpotPlaces.{place_start}
 use Rattle.image.proofs.config_lines.spots_of.Given as goal
 
 abbrev pub invariant-loop-n : goal.invariant-loop-n

@@ -1,5 +1,5 @@
 -- Each spot is the line with its number: the places behind the lines before it add up. Assumes nothing.
-use Rattle.std.proofs.Common.{◌≡◌, ◌∙◌, ℕ, ◌+◌, ◌-◌, ◌*◌, Bool, List, refl, ap, arith, drop}
+use Rattle.std.proofs.Common.{◌≡◌, ◌∙◌, ℕ, ◌+◌, ◌-◌, ◌*◌, Bool, List, refl, ap}
 use lib.ListN.{set}
 use Rattle.counts.specs.declared.ConfigId.{ConfigId}
 use Rattle.counts.specs.Counts.{config_number, step_of, crc_place, identifier_line, crc_line}

@@ -1,14 +1,9 @@
 -- The answer from the start is the answer from here with the facts so far. Assumes nothing.
-use mathlib.Core.Path.{◌≡◌, refl, sym, ◌∙◌}
-use Prim.Native.Nat.{◌+◌, ◌-◌, ◌≤◌}
-use native.Mathlib.Omega.{arith}
+use mathlib.Core.Path.{◌≡◌}
+use Prim.Native.Nat.{◌-◌, ◌≤◌}
 use lib.ListN.{length, drop}
 use Rattle.cuts.specs.Lines.{lines_of}
-use Rattle.promise.proofs.Basics.{via}
-use Rattle.line.proofs.LentIsRight.{read_is}
-use Rattle.counts.specs.Counts.{line_number}
 use Rattle.image.specs.Private.Walk.{facts_from, start}
-use Rattle.image.proofs.WalkSteps.{facts_end, facts_stop, facts_took, with_lines}
 use Rattle.image.proofs.walk.facts_of.Given as goal
 
 abbrev pub invariant-loop-line : goal.invariant-loop-line

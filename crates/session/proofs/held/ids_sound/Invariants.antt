@@ -1,10 +1,8 @@
 -- From the first identifier on; a turn is one step along the list. Assumes nothing.
-use Prim.Native.Nat.{◌-◌, ◌≤◌, ◌<◌}
-use mathlib.Core.Path.{◌≡◌, ◌∙◌, sym, refl}
-use native.Mathlib.Omega.{arith}
+use Prim.Native.Nat.{◌≤◌, ◌<◌}
+use mathlib.Core.Path.{◌≡◌}
 use lib.ListN.{length, take, drop}
 use Rattle.session.specs.Sound.{ids_sound}
-use Rattle.session.proofs.Ids.{ids_stop, ids_go, ids_end}
 use Rattle.session.proofs.held.ids_sound.Given as goal
 
 abbrev pub invariant-loop-i : goal.invariant-loop-i
