@@ -1,5 +1,5 @@
 -- The file's own formulas between its counts (document 01, "The whole file"). Assumes nothing.
-use Rattle.std.specs.Prelude.{ℕ, ◌+◌, ◌*◌, ◌/◌, ◌%◌, cond, eqb, ltb, leb}
+use Rattle.std.specs.Prelude.{ℕ, ◌+◌, ◌*◌, ◌/◌, ◌%◌, cond, eqb, ltb, leb, Option, Some, None}
 use Rattle.counts.specs.declared.LineNumber.{LineNumber}
 use Rattle.counts.specs.declared.Place.{Place}
 use Rattle.counts.specs.declared.ConfigNumber.{ConfigNumber}
@@ -7,8 +7,6 @@ use Rattle.counts.specs.declared.ConfigId.{ConfigId}
 use Rattle.counts.specs.declared.Bank.{Bank}
 use Rattle.counts.specs.declared.Kind.{Kind}
 use Rattle.counts.specs.declared.Kind.TheVariants.{Legacy, Production}
-use Rattle.counts.specs.declared.KindFound.{KindFound}
-use Rattle.counts.specs.declared.KindFound.TheVariants.{Is, Unknown}
 
 -- numbers as counts, where a number is meant as one
 abbrev pub line_number : ℕ → LineNumber
@@ -34,10 +32,10 @@ crc_place Legacy = 276
 crc_place Production = 290
 
 -- the revision's first byte: 00 or 01 legacy, 06 or 07 production
-unfoldable pub kind_of : ℕ → KindFound
+unfoldable pub kind_of : ℕ → Option Kind
 kind_of first =
-    cond (ltb first 2) (Is Legacy)
-    (cond (eqb first 6) (Is Production) (cond (eqb first 7) (Is Production) Unknown))
+    cond (ltb first 2) (Some Legacy)
+    (cond (eqb first 6) (Some Production) (cond (eqb first 7) (Some Production) None))
 
 -- n = 12 + s x k
 abbrev pub line_count : Kind → ℕ → ℕ

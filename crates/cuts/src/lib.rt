@@ -3,51 +3,55 @@
 
 mod blocks;
 
-ghost use Rattle.std.specs.Prelude.{◌≡◌, drop, ◌+◌};
+ghost use Rattle.std.specs.Prelude.{◌≡◌, ◌==◌, drop, position, ◌+◌};
 ghost use Rattle.cuts.specs.Lines.{line_skip, place_of};
 
 use blocks::skip_blocks;
 
-// A place, and how many lines are left to skip from there.
-#[derive(Clone, Copy)]
-struct Skipped {
-    pub at: usize,
-    pub left: usize,
+fn first_lf(s: &[u8]) -> Option<usize>
+    ensures { result ≡ position (λ b. b == 10) s.now }
+{
+    s.iter().position(|b| *b == b'\n')
 }
 
-// The place behind the line's LF, or the text's end where it has none.
-#[tactic(auto, using(crate::proofs::FirstLine::skip_lf, crate::proofs::FirstLine::skip_on, crate::proofs::FirstLine::skip_past), unfolding(crate::specs::Lines::line_skip))]
-fn line_end(s: &[u8], at: usize) -> usize
-    ensures { result ≡ at + line_skip (drop at s.now) }
+// The first line's bytes with its LF, or all where it has none.
+#[tactic(auto, using(crate::proofs::FirstLine::skip_found, crate::proofs::FirstLine::skip_none))]
+fn line_bytes(s: &[u8]) -> usize
+    ensures { result ≡ line_skip s.now }
 {
-    let mut i = at;
-    while i < s.len() {
-        if s[i] == 10 {
-            return i + 1;
-        }
-        i += 1;
+    match first_lf(s) {
+        Some(lf) => lf + 1,
+        None => s.len(),
     }
-    i
 }
 
 // Line by line.
-#[tactic(auto, using(crate::proofs::FirstLine::place_on, crate::proofs::FirstLine::place_none), unfolding(crate::specs::Lines::place_of))]
-fn skip_lines(s: &[u8], at: usize, lines: usize) -> usize
-    ensures { result ≡ at + place_of lines (drop at s.now) }
+#[tactic(auto, using(crate::proofs::FirstLine::places))]
+fn skip_lines(s: &[u8], lines: usize) -> usize
+    ensures { result ≡ place_of lines s.now }
 {
-    let mut i = at;
-    let mut left = lines;
-    while 0 < left {
-        i = line_end(s, i);
-        left -= 1;
+    let mut next = 0;
+    for _ in 0..lines {
+        next += line_bytes(&s[next..]);
     }
-    i
+    next
+}
+
+#[tactic(auto, using(crate::proofs::FirstLine::places))]
+fn place(s: &[u8], lines: usize) -> usize
+    ensures { result ≡ place_of lines s.now }
+{
+    let (past, left) = skip_blocks(s, lines);
+    past + skip_lines(&s[past..], left)
 }
 
 // Where the line starts that comes behind some lines from a place on.
+#[tactic(auto, using(crate::proofs::FirstLine::places))]
 pub fn skip(s: &[u8], at: usize, lines: usize) -> usize
     ensures { result ≡ at + place_of lines (drop at s.now) }
 {
-    let past = skip_blocks(s, at, lines);
-    skip_lines(s, past.at, past.left)
+    match s.get(at..) {
+        Some(rest) => at + place(rest, lines),
+        None => at,
+    }
 }

@@ -8,6 +8,8 @@ use native.Mathlib.Omega.{arith}
 use lib.Dec.{eqb}
 use lib.ListN.{length, get_or}
 use borrow.Author.Tests.{eqb-true}
+use Rattle.pec.specs.Pec.{remainder}
+use Rattle.pec.specs.Lent.{IsTable}
 
 module _ (rule : ℕ → ℕ) where
   -- every entry is what the rule gives for its place, the first place being p
@@ -33,3 +35,7 @@ module _ (rule : ℕ → ℕ) where
   -- the test, carried to each entry
   pub entry_follows : (table : List ℕ) → follows 0 table ≡ true → (k : ℕ) → k < length table → get_or table k 0 ≡ rule k
   entry_follows table e k h = let same : k + 0 ≡ k = omega arith in rw same at (later table 0 k e h)
+
+-- a table of 256 entries that follow the rule keeps it
+pub keeps : {table : List ℕ} → length table ≡ 256 → follows remainder 0 table ≡ true → IsTable table
+keeps {table} size passed = record { size = size; entry = λ b h. entry_follows remainder table passed b (omega (arith, size, h)) }

@@ -62,10 +62,10 @@ run_with-append table c (x ∷ xs) ys = run_with-append table (step_with table c
 
 -- ---- a loop over a slice: the bytes before i + 1, by those before i
 
-pub run_with-take : (table : List ℕ) (c : ℕ) (s : List ℕ) (i : ℕ) → i < length s →
+pub one_byte_more : (table : List ℕ) (c : ℕ) (s : List ℕ) (i : ℕ) → i < length s →
     run_with table c (take (i + 1) s) ≡ step_with table (run_with table c (take i s)) (get_or s i 0)
 unfolding run_with
-run_with-take table c s i h = rw (add-one, take-suc s i 0, run_with-append)
+one_byte_more table c s i h = rw (add-one, take-suc s i 0, run_with-append)
 
 -- ---- a table that keeps the rule gives the PEC's own steps
 

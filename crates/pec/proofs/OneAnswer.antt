@@ -17,6 +17,9 @@ one-table r q a b = ext_get_or 0 r q (a.size ∙ sym b.size) (λ i h. a.entry i 
     inside : (i : ℕ) → i < length r → i < 256
     inside i h = omega (arith, a.size)
 
+pub one-lent : One (λ r. IsTable r)
+one-lent = one-table
+
 pub one-step_with : (table : List ℕ) (register byte : ℕ) → One (λ r. r ≡ step_with table register byte)
 one-step_with table register byte = one_answer _
 

@@ -1,5 +1,5 @@
-// The packet error code (PEC) of SMBus, run from a table of 256 entries (document 01, "The PEC"). An array that is a constant
-// is stored anew wherever it is used, so a caller with many short messages makes the table once and lends it down.
+// The packet error code (PEC) of SMBus, run from a table of 256 entries (document 01, "The PEC"). The table is a static, which stands in
+// one place and is lent; an array that is a constant would be stored anew wherever it is used.
 #![tactic(auto)]
 
 mod remainders;
@@ -10,12 +10,18 @@ ghost use Rattle.pec.specs.Lent.{IsTable, step_with, run_with};
 
 use remainders::TABLE;
 
-// The table, to be made once and lent.
-#[tactic(auto, using(crate::proofs::Entries::follows, crate::proofs::Entries::entry_follows), unfolding(crate::specs::Pec::remainder, crate::specs::Pec::shifts, crate::specs::Pec::shift, crate::specs::Pec::top_bit))]
+// A copy of the table.
 pub fn table() -> [u8; 256]
     ensures { IsTable result }
 {
     TABLE
+}
+
+// The table where it stands, lent for good.
+pub fn lent() -> &'static [u8; 256]
+    ensures { IsTable result.now }
+{
+    &TABLE
 }
 
 // The register after one more byte, by a lent table.
@@ -27,33 +33,31 @@ pub fn step_with(table: &[u8; 256], register: u8, byte: u8) -> u8
 }
 
 // The register after some bytes, by a lent table.
-#[tactic(auto, unfolding(crate::specs::Lent::run_with))]
+#[tactic(auto, using(crate::proofs::Laws::one_byte_more), unfolding(crate::specs::Lent::run_with))]
 pub fn run_with(table: &[u8; 256], register: u8, bytes: &[u8]) -> u8
     ensures { result ≡ run_with table.now register bytes.now }
 {
     let mut c = register;
-    for i in 0..bytes.len() {
-        c = step_with(table, c, bytes[i]);
+    for byte in bytes {
+        c = step_with(table, c, *byte);
     }
     c
 }
 
-// The register after one more byte.
-#[tactic(auto, using(crate::proofs::Laws::step_right), unfolding(crate::specs::Pec::step))]
+// The register after one more byte, by the table that stands here: another promise than `step_with`'s, which holds for any table.
+#[tactic(auto, using(crate::proofs::Laws::step_right))]
 pub fn step(register: u8, byte: u8) -> u8
     ensures { result ≡ step register byte }
 {
-    let table = table();
-    step_with(&table, register, byte)
+    step_with(lent(), register, byte)
 }
 
 // The register after some bytes.
-#[tactic(auto, using(crate::proofs::Laws::run_right), unfolding(crate::specs::Pec::pec_from))]
+#[tactic(auto, using(crate::proofs::Laws::run_right))]
 pub fn run(register: u8, bytes: &[u8]) -> u8
     ensures { result ≡ pec_from register bytes.now }
 {
-    let table = table();
-    run_with(&table, register, bytes)
+    run_with(lent(), register, bytes)
 }
 
 // The PEC of some bytes.

@@ -13,6 +13,7 @@ pub fn fill<R: Read>(from: &mut R, space: &mut [u8]) -> usize
     ensures bytes { Consumes (R.remaining from.old) (R.remaining from.new) (take result space.new) }
 {
     let mut done: usize = 0;
+    // Counted by hand: where the next read begins is what the last one gave, which no iterator over the buffer knows.
     while done < space.len() {
         match from.read(&mut space[done..]) {
             Ok(0) => break,

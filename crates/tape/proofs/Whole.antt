@@ -1,34 +1,66 @@
--- One reply more of those that are whole, and where a reply that is there ends. Assumes nothing.
-use mathlib.Core.Path.{◌≡◌}
+-- Where a reply that is there lies, and one more of those that are whole. Assumes nothing.
+use mathlib.Core.Path.{◌≡◌, refl, sym}
 use mathlib.Core.List.{List}
+use mathlib.Core.Bool.{true}
 use Prim.Native.Nat.{ℕ, zero, suc, ◌+◌, ◌-◌, ◌≤◌, ◌<◌}
 use native.Mathlib.Omega.{arith}
 use lib.Dec.{ltb, leb}
 use lib.ListN.{length}
 use borrow.Author.Tests.{ltb-false, leb-false}
+use Rattle.std.specs.Prelude.{Option, Some, None, Result, Ok, Err}
 use Rattle.promise.proofs.Basics.{split}
-use Rattle.tape.specs.declared.Found.TheVariants.{End, Reply, Part}
-use Rattle.tape.specs.Replies.{found_at, whole_by, whole_replies, byte}
+use Rattle.tape.specs.declared.Reply.{Reply}
+use Rattle.tape.specs.declared.CutShort.{CutShort}
+use Rattle.tape.specs.Replies.{found_at, whole_by, whole_replies, byte, part}
 
-pub whole_step : (left : ℕ) (s : List ℕ) (at : ℕ) → 0 < left → whole_replies left s at ≡ whole_by (found_at s at) (whole_replies (left - 1) s)
-unfolding whole_replies
-whole_step zero s at h = absurd (let no : ⊥ = omega arith in no)
-whole_step (suc left) s at h = let e : suc left - 1 ≡ left = omega arith in rw e
-
-pub record Within (s : List ℕ) (start end : ℕ) : Type 0 where
+pub record Lies (s : List ℕ) (at start end : ℕ) : Type 0 where
+  pub behind : start ≡ at + 2
   pub ordered : start ≤ end
   pub inside : end ≤ length s
 
-pub found_within : (s : List ℕ) (at kind start end : ℕ) → found_at s at ≡ Reply kind start end → Within s start end
+pub found_within : (s : List ℕ) (at : ℕ) (reply : Reply) → found_at s at ≡ Ok (Some reply) → Lies s at reply.start reply.end
 unfolding found_at
-found_within s at kind start end e =
-    split (leb (length s) at) (λ t. let z : End ≡ Reply kind start end = rw t at e in let y : ◌≡◌ {A = ℕ} 0 1 = cc in absurd (let no : ⊥ = omega arith in no))
-    (λ t. split (ltb (length s - at) 2)
-    (λ u. let z : Part ≡ Reply kind start end = rw (t, u) at e in let y : ◌≡◌ {A = ℕ} 0 1 = cc in absurd (let no : ⊥ = omega arith in no))
-    (λ u. split (ltb (length s - at - 2) (byte s (at + 1)))
-    (λ v. let z : Part ≡ Reply kind start end = rw (t, u, v) at e in let y : ◌≡◌ {A = ℕ} 0 1 = cc in absurd (let no : ⊥ = omega arith in no))
+found_within s at reply e =
+    split (leb (length s) at) (λ t. let z : ◌≡◌ {A = Result (Option Reply) CutShort} (Ok None) (Ok (Some reply)) = rw t at e in absurd cc)
+    (λ t. split (ltb (length s - at) 2) (λ u. let z : part ≡ Ok (Some reply) = rw (t, u) at e in absurd cc)
+    (λ u. split (ltb (length s - at - 2) (byte s (at + 1))) (λ v. let z : part ≡ Ok (Some reply) = rw (t, u, v) at e in absurd cc)
     (λ v.
-    let z : Reply (byte s at) (at + 2) (at + 2 + byte s (at + 1)) ≡ Reply kind start end = rw (t, u, v) at e in
-    let a : at + 2 ≡ start = cc in
-    let b : at + 2 + byte s (at + 1) ≡ end = cc in
-    record { ordered = omega arith; inside = omega (arith, leb-false (length s) at t, ltb-false (length s - at) 2 u, ltb-false (length s - at - 2) (byte s (at + 1)) v) })))
+    let z : Ok (Some (record { kind = byte s at; start = at + 2; end = at + 2 + byte s (at + 1) })) ≡ Ok (Some reply) = rw (t, u, v) at e in
+    let a : at + 2 ≡ reply.start = cc in
+    let b : at + 2 + byte s (at + 1) ≡ reply.end = cc in
+    record {
+      behind = omega arith;
+      ordered = omega arith;
+      inside = omega (arith, leb-false (length s) at t, ltb-false (length s - at) 2 u, ltb-false (length s - at - 2) (byte s (at + 1)) v);
+    })))
+
+-- a part of a reply is no end
+pub part_inside : (s : List ℕ) (at : ℕ) (cut : CutShort) → found_at s at ≡ Err cut → at < length s
+unfolding found_at
+part_inside s at cut e =
+    split (leb (length s) at) (λ t. let z : ◌≡◌ {A = Result (Option Reply) CutShort} (Ok None) (Err cut) = rw t at e in absurd cc)
+    (λ t. omega (arith, leb-false (length s) at t))
+
+-- where there is nothing more all are whole
+none_whole : (most : ℕ) (s : List ℕ) (at : ℕ) → length s ≤ at → whole_replies most s at ≡ true
+unfolding whole_replies whole_by found_at
+none_whole zero s at h = refl
+none_whole (suc most) s at h = split (leb (length s) at) (λ t. rw t) (λ t. absurd (let no : ⊥ = omega (arith, leb-false (length s) at t) in no))
+
+-- any number that is enough is as good as another
+enough : (a b : ℕ) (s : List ℕ) (at : ℕ) → length s ≤ a + at → length s ≤ b + at → whole_replies a s at ≡ whole_replies b s at
+unfolding whole_replies whole_by
+enough zero b s at h k = sym (none_whole b s at (omega arith))
+enough (suc a) zero s at h k = none_whole (suc a) s at (omega arith)
+enough (suc a) (suc b) s at h k = on (found_at s at) refl (λ end. enough a b s end)
+  where
+    on : (found : Result (Option Reply) CutShort) → found_at s at ≡ found
+        → ((end : ℕ) → length s ≤ a + end → length s ≤ b + end → whole_replies a s end ≡ whole_replies b s end)
+        → whole_by found (whole_replies a s) ≡ whole_by found (whole_replies b s)
+    on (Ok None) e further = refl
+    on (Ok (Some reply)) e further = let lies = found_within s at reply e in further reply.end (omega arith) (omega arith)
+    on (Err cut) e further = refl
+
+pub whole_step : (s : List ℕ) (at : ℕ) → whole_replies (length s) s at ≡ whole_by (found_at s at) (whole_replies (length s) s)
+unfolding whole_replies
+whole_step s at = enough (length s) (suc (length s)) s at (omega arith) (omega arith)

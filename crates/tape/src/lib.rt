@@ -2,51 +2,57 @@
 // held against a session reads the same replies and names nothing of it.
 #![tactic(auto)]
 
+mod turns;
+
 ghost use Rattle.std.specs.Prelude.{◌≡◌, length};
 ghost use Rattle.tape.specs.Replies.{found_at, whole_replies};
 
-// What stands at a place: nothing more, a reply of this kind with the bytes from one place to another, or a part of one.
+// A reply that stands in the input: its kind, and where its bytes start and end.
 #[derive(Clone, Copy)]
-pub enum Found {
-    End,
-    Reply(u8, usize, usize),
-    Part,
+pub struct Reply {
+    pub kind: u8,
+    pub start: usize,
+    pub end: usize,
 }
 
-// What stands at a place of the input.
+// Of a reply only a part stands there.
+#[derive(Clone, Copy)]
+pub struct CutShort;
+
+// The replies of an input from a place on, one for each turn, in the bytes that it was lent.
+#[derive(Drop)]
+pub struct Replies<'a> {
+    pub input: &'a [u8],
+    pub at: usize,
+}
+
+// What stands at a place of the input: a reply, nothing more, or a part of one.
 #[tactic(auto, unfolding(crate::specs::Replies::found_at))]
-pub fn reply_at(input: &[u8], at: usize) -> Found
+pub fn reply_at(input: &[u8], at: usize) -> Result<Option<Reply>, CutShort>
     ensures { result ≡ found_at input.now at }
 {
-    let n = input.len();
-    if n <= at {
-        return Found::End;
+    let Some(&kind) = input.get(at) else {
+        return Ok(None);
+    };
+    let Some(&count) = input.get(at + 1) else {
+        return Err(CutShort);
+    };
+    let start = at + 2;
+    let end = start + count as usize;
+    if input.len() < end {
+        return Err(CutShort);
     }
-    if n - at < 2 {
-        return Found::Part;
-    }
-    let count = input[at + 1] as usize;
-    if n - at - 2 < count {
-        Found::Part
-    } else {
-        Found::Reply(input[at], at + 2, at + 2 + count)
-    }
+    Ok(Some(Reply { kind, start, end }))
 }
 
 // Whether the replies from a place on are whole. No input has more replies than bytes.
-#[tactic(auto, using(crate::proofs::Whole::whole_step), unfolding(crate::specs::Replies::whole_by, crate::specs::Replies::whole_replies))]
+#[tactic(auto, using(crate::proofs::Whole::whole_step), unfolding(crate::specs::Replies::whole_by))]
 pub fn replies_whole(input: &[u8], from: usize) -> bool
     ensures { result ≡ whole_replies (length input.now) input.now from }
 {
-    let mut at = from;
-    let mut left = input.len();
-    while 0 < left {
-        left -= 1;
-        let found = reply_at(input, at);
-        match found {
-            Found::End => return true,
-            Found::Reply(_, _, end) => at = end,
-            Found::Part => return false,
+    for reply in (Replies { input, at: from }) {
+        if reply.is_err() {
+            return false;
         }
     }
     true

@@ -1,0 +1,25 @@
+// The pieces that a page takes.
+ghost use Rattle.text.specs.Text.{hex, decimal};
+ghost use Rattle.text.specs.Page.{PutsOn};
+
+use crate::{Page, put_bytes, put_decimal, put_hex};
+
+impl Page<'_> {
+    pub fn bytes(&mut self, bytes: &[u8])
+        ensures { PutsOn self.old bytes.now self.new }
+    {
+        self.at = put_bytes(self.room, self.at, bytes);
+    }
+
+    pub fn hex<const WIDTH: usize>(&mut self, n: u32)
+        ensures { PutsOn self.old (hex WIDTH n) self.new }
+    {
+        self.at = put_hex::<WIDTH>(self.room, self.at, n);
+    }
+
+    pub fn decimal(&mut self, n: u64)
+        ensures { PutsOn self.old (decimal n) self.new }
+    {
+        self.at = put_decimal(self.room, self.at, n);
+    }
+}
