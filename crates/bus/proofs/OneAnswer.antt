@@ -1,7 +1,7 @@
 -- One answer: any two results that the promise of a public function allows for the same input are equal. tests/check-unique holds each
 -- of these to the source. Assumes nothing.
 use mathlib.Core.Path.{◌≡◌}
-use mathlib.Core.List.{List, [], ◌∷◌}
+use mathlib.Core.List.{List}
 use Prim.Native.Nat.{ℕ}
 use lib.ListN.{take}
 use Rattle.bus.specs.declared.Request.{Request}
@@ -10,11 +10,11 @@ use Rattle.bus.specs.ReplyForm.{form_of}
 use Rattle.promise.specs.One.{One}
 use Rattle.promise.proofs.Equal.{one_answer}
 
-pub one-Bus-write_with : (address : ℕ) (table : List ℕ) (command count a b c d : ℕ) → One (λ r. r ≡ write_with address table command (take count (a ∷ b ∷ c ∷ d ∷ [])))
-one-Bus-write_with address table command count a b c d = one_answer _
+pub one-Bus-write_with : (address : ℕ) (table : List ℕ) (command count : ℕ) (four : List ℕ) → One (λ r. r ≡ write_with address table command (take count four))
+one-Bus-write_with address table command count four = one_answer _
 
-pub one-Bus-write : (address command count a b c d : ℕ) → One (λ r. r ≡ write_of address command (take count (a ∷ b ∷ c ∷ d ∷ [])))
-one-Bus-write address command count a b c d = one_answer _
+pub one-Bus-write : (address command count : ℕ) (four : List ℕ) → One (λ r. r ≡ write_of address command (take count four))
+one-Bus-write address command count four = one_answer _
 
 pub one-Bus-read_address : (address : ℕ) → One (λ r. r ≡ read_address address)
 one-Bus-read_address address = one_answer _

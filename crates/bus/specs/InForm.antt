@@ -1,9 +1,9 @@
 -- What a reply is found to be, said by the bytes themselves, beside the definition `form_of`: with no test of it and no part of a
 -- list. Document 01, "The session": what replies hold, and 20, 21 and 22 of its table. Assumes nothing.
-use Rattle.std.specs.Prelude.{◌≡◌, ◌↔◌, ◌⊎◌, List, [], ◌∷◌, ℕ, ◌+◌, ◌*◌, ◌<◌, length}
+use Rattle.std.specs.Prelude.{◌≡◌, ◌↔◌, ◌⊎◌, List, [], ◌∷◌, ℕ, ◌+◌, ◌*◌, ◌<◌, length, Result, Ok, Err}
 use Rattle.bus.specs.declared.Request.{Request}
-use Rattle.bus.specs.declared.ReplyForm.{ReplyForm}
-use Rattle.bus.specs.declared.ReplyForm.TheVariants.{Unanswered, Misshapen, Miscoded, Good}
+use Rattle.bus.specs.declared.Misreply.{Misreply}
+use Rattle.bus.specs.declared.Misreply.TheVariants.{Unanswered, Misshapen, Miscoded}
 use Rattle.bus.specs.Bus.{framed, read_address, read_of}
 use Rattle.bus.specs.ReplyForm.{form_of}
 use Rattle.pec.specs.Pec.{pec}
@@ -57,12 +57,12 @@ pub data WrongPec : Request → List ℕ → Type 0 where
 
 -- what each form says of a reply: 20, kind 0, whatever its bytes; 21, a kind above 1, or done in a wrong shape; 22, done with a
 -- wrong PEC; otherwise in form
-unfoldable pub Says : Request → ℕ → List ℕ → ReplyForm → Type 0
-Says q kind rs Unanswered = kind ≡ 0
-Says q kind rs Misshapen = (1 < kind) ⊎ ((kind ≡ 1) × WrongShape q rs)
-Says q kind rs Miscoded = (kind ≡ 1) × WrongPec q rs
-Says q kind rs (Good w) = InForm q kind rs w
+unfoldable pub Says : Request → ℕ → List ℕ → Result ℕ Misreply → Type 0
+Says q kind rs (Err Unanswered) = kind ≡ 0
+Says q kind rs (Err Misshapen) = (1 < kind) ⊎ ((kind ≡ 1) × WrongShape q rs)
+Says q kind rs (Err Miscoded) = (kind ≡ 1) × WrongPec q rs
+Says q kind rs (Ok w) = InForm q kind rs w
 
 -- for every reply to this request: `form_of` gives a form exactly where the reply is what the form says
 unfoldable pub Means : Request → Type 0
-Means q = (kind : ℕ) (rs : List ℕ) (x : ReplyForm) → (form_of q kind rs ≡ x) ↔ Says q kind rs x
+Means q = (kind : ℕ) (rs : List ℕ) (x : Result ℕ Misreply) → (form_of q kind rs ≡ x) ↔ Says q kind rs x

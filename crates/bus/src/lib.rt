@@ -2,13 +2,14 @@
 // that it is given (document 02, R-2).
 #![tactic(auto)]
 
-ghost use Rattle.std.specs.Prelude.{◌≡◌, [], ◌∷◌, false, ◌+◌, ◌≤◌, length, take};
+ghost use Rattle.std.specs.Prelude.{◌≡◌, ◌+◌, ◌≤◌, length, take};
 ghost use Rattle.bus.specs.declared.Request.{Request};
-ghost use Rattle.bus.specs.Bus.{framed, write_of, write_with, read_address, read_of, no_request, reserved};
-ghost use Rattle.bus.specs.ReplyForm.{word_of, sealed_of, read_form, form_of};
+ghost use Rattle.bus.specs.Bus.{write_of, write_with, read_address, read_of, no_request, reserved};
+ghost use Rattle.bus.specs.ReplyForm.{sealed_of, read_form, form_of};
 
-// What is handed to the host: eight bytes, of which `used` are sent or, of a read, ask; the others are zeros.
-#[derive(Clone, Copy)]
+// What is handed to the host: eight bytes, of which `used` are sent or, of a read, ask; the others are zeros. The count stands beside
+// them, since a state holds a request as it is, with any count (`no_request`; `at_most8` of a dry run).
+#[derive(Clone, Copy, PartialEq, Eq)]
 pub struct Request {
     pub bytes: [u8; 8],
     pub used: u8,
@@ -54,37 +55,35 @@ impl Bus {
     pub const CRC: u16 = 0x0094;
 
     // A write of the first `count` of four data bytes, with the PEC of all that goes out before it, by a lent table: a caller that
-    // has made the table already does not make it again.
-    #[tactic(auto, using(crate::proofs::Laws::few_framed, crate::proofs::Laws::all_framed), unfolding(crate::specs::Bus::write_with))]
+    // has made the table already does not make it again. Behind the PEC stand zeros.
+    #[tactic(auto, using(crate::proofs::Laws::laid))]
     pub fn write_with(
         address: u8,
         table: &[u8; 256],
         command: u8,
         count: usize,
-        a: u8,
-        b: u8,
-        c: u8,
-        d: u8,
+        four: [u8; 4],
     ) -> Request
-        ensures { result ≡ write_with address table.now command (take count (a ∷ b ∷ c ∷ d ∷ [])) }
+        ensures { result ≡ write_with address table.now command (take count four) }
     {
+        let [a, b, c, d] = four;
         let body = [address, command, a, b, c, d];
-        if count < 4 {
-            let code = pec::run_with(table, 0, &body[..2 + count]);
-            framed(address, command, count, a, b, c, d, code)
-        } else {
-            let code = pec::run_with(table, 0, &body);
-            framed(address, command, count, a, b, c, d, code)
+        let sent = 2 + count.min(4);
+        let mut bytes = [0; 8];
+        bytes[..sent].copy_from_slice(&body[..sent]);
+        bytes[sent] = pec::run_with(table, 0, &body[..sent]);
+        Request {
+            bytes,
+            used: sent as u8 + 1,
+            reads: false,
         }
     }
 
-    // The same for one write alone: the table is made for it.
-    #[tactic(auto, using(crate::proofs::Laws::write_right), unfolding(crate::specs::Bus::write_of))]
-    pub fn write(address: u8, command: u8, count: usize, a: u8, b: u8, c: u8, d: u8) -> Request
-        ensures { result ≡ write_of address command (take count (a ∷ b ∷ c ∷ d ∷ [])) }
+    // The same by the table of `pec`: another promise than `write_with`'s, which holds for any table.
+    pub fn write(address: u8, command: u8, count: usize, four: [u8; 4]) -> Request
+        ensures { result ≡ write_of address command (take count four) }
     {
-        let table = pec::table();
-        Bus::write_with(address, &table, command, count, a, b, c, d)
+        Bus::write_with(address, pec::lent(), command, count, four)
     }
 
     // The address that a device is read by, one more than the one that it is written to by.
@@ -92,7 +91,7 @@ impl Bus {
     pub fn read_address(address: u8) -> u8
         ensures { result ≡ read_address address }
     {
-        ((address as u16 + 1) % 256) as u8
+        address.wrapping_add(1)
     }
 
     // A read whose reply has so many bytes: 5 for a register, 6 for a block. The count is no byte of the bus.
@@ -121,129 +120,65 @@ impl Bus {
     }
 
     // Whether RESTORE_CFG may not be this code, which the guide uses for something else (14 SETTING).
-    #[tactic(auto, using(promise::proofs::Basics::or_none, crate::proofs::Laws::tests), unfolding(crate::specs::Bus::reserved, promise::specs::Lists::is_in))]
+    #[tactic(auto, unfolding(crate::specs::Bus::reserved, promise::specs::Lists::is_in))]
     pub fn reserved(command: u8) -> bool
         ensures { result ≡ reserved command }
     {
-        if command == Bus::DATA {
-            return true;
-        }
-        if command == Bus::SEQUENTIAL {
-            return true;
-        }
-        if command == Bus::POINT {
-            return true;
-        }
-        if command == Bus::ACT {
-            return true;
-        }
-        if command == Bus::IDENTITY {
-            return true;
-        }
-        command == Bus::REVISION
+        matches!(
+            command,
+            Bus::DATA | Bus::SEQUENTIAL | Bus::POINT | Bus::ACT | Bus::IDENTITY | Bus::REVISION
+        )
     }
 }
 
-// A write whose last byte is a zero.
-fn laid(a: u8, b: u8, c: u8, d: u8, e: u8, f: u8, g: u8, used: u8) -> Request
-    ensures { result ≡ record { bytes = a ∷ b ∷ c ∷ d ∷ e ∷ f ∷ g ∷ 0 ∷ []; used = used; reads = false } }
-{
-    Request {
-        bytes: [a, b, c, d, e, f, g, 0],
-        used: used,
-        reads: false,
-    }
-}
-
-// The PEC right behind the data bytes that are used, and zeros behind it.
-#[tactic(auto, using(crate::proofs::Laws::all_four), unfolding(crate::specs::Bus::framed, crate::specs::Bus::eight))]
-fn framed(address: u8, command: u8, count: usize, a: u8, b: u8, c: u8, d: u8, pec: u8) -> Request
-    ensures { result ≡ framed (address ∷ command ∷ take count (a ∷ b ∷ c ∷ d ∷ [])) pec }
-{
-    match count {
-        0 => laid(address, command, pec, 0, 0, 0, 0, 3),
-        1 => laid(address, command, a, pec, 0, 0, 0, 4),
-        2 => laid(address, command, a, b, pec, 0, 0, 5),
-        3 => laid(address, command, a, b, c, pec, 0, 6),
-        _ => laid(address, command, a, b, c, d, pec, 7),
-    }
-}
-
-// What a reply is found to be: 20, 21 or 22, or in form with the word read (0 for a write).
-#[derive(Clone, Copy)]
-pub enum ReplyForm {
+// Why a reply is not in form: 20, 21 or 22.
+#[derive(Clone, Copy, PartialEq, Eq)]
+pub enum Misreply {
     Unanswered,
     Misshapen,
     Miscoded,
-    Good(u32),
 }
 
-// Four bytes, lowest first.
-fn word(a: u8, b: u8, c: u8, d: u8) -> u32
-    ensures { result ≡ word_of a b c d }
-{
-    a as u32 + b as u32 * 256 + c as u32 * 65536 + d as u32 * 16777216
-}
-
-// The word at this place, if the byte behind it is the PEC of what was asked and the bytes before it.
-#[tactic(auto, using(crate::proofs::Laws::sealed_good, crate::proofs::Laws::sealed_bad), unfolding(crate::specs::ReplyForm::word_at, crate::specs::ReplyForm::sealed_of))]
-fn sealed(asked: [u8; 8], bytes: &[u8], at: usize) -> ReplyForm
+// The word at this place, lowest byte first, if the byte behind it is the PEC of what was asked and the bytes before it.
+#[tactic(auto, unfolding(crate::specs::ReplyForm::word_at, crate::specs::ReplyForm::sealed_of))]
+fn sealed(asked: [u8; 8], bytes: &[u8], at: usize) -> Result<u32, Misreply>
     requires { (at ≤ 1) × (length bytes.now ≡ at + 5) }
     ensures { result ≡ sealed_of asked bytes.now at }
 {
     let last = at + 4;
     let start = pec::of(&asked[..3]);
     if pec::run(start, &bytes[..last]) == bytes[last] {
-        ReplyForm::Good(word(bytes[at], bytes[at + 1], bytes[at + 2], bytes[at + 3]))
+        Ok(u32::from_le_bytes([bytes[at], bytes[at + 1], bytes[at + 2], bytes[at + 3]]))
     } else {
-        ReplyForm::Miscoded
+        Err(Misreply::Miscoded)
     }
 }
 
 // A read's reply has as many bytes as it was asked for: five, or six of which the first is 4.
-#[tactic(auto, using(crate::proofs::Laws::tests), unfolding(crate::specs::ReplyForm::read_form))]
-fn read_form(asked: [u8; 8], bytes: &[u8]) -> ReplyForm
+#[tactic(auto, unfolding(crate::specs::ReplyForm::read_form))]
+fn read_form(asked: [u8; 8], bytes: &[u8]) -> Result<u32, Misreply>
     ensures { result ≡ read_form asked bytes.now }
 {
-    let n = bytes.len();
-    if n == asked[3] as usize {
-        if n == 5 {
-            return sealed(asked, bytes, 0);
-        }
-        if n == 6 {
-            if bytes[0] == 4 {
-                sealed(asked, bytes, 1)
-            } else {
-                ReplyForm::Misshapen
-            }
-        } else {
-            ReplyForm::Misshapen
-        }
-    } else {
-        ReplyForm::Misshapen
+    match bytes {
+        _ if bytes.len() != asked[3] as usize => Err(Misreply::Misshapen),
+        [_, _, _, _, _] => sealed(asked, bytes, 0),
+        [4, _, _, _, _, _] => sealed(asked, bytes, 1),
+        _ => Err(Misreply::Misshapen),
     }
 }
 
 impl Request {
-    // The form of a reply to this request, tried at each reply before anything is read from it.
-    #[tactic(auto, using(crate::proofs::Laws::tests), unfolding(crate::specs::ReplyForm::form_of, crate::specs::ReplyForm::done_form))]
-    pub fn form(self, kind: u8, bytes: &[u8]) -> ReplyForm
+    // The form of a reply to this request, tried at each reply before anything is read from it: the word that it tells, 0 for a write.
+    // A host's kind is any byte, and one over 1 is 21 (`form_of`), so it stays a number.
+    #[tactic(auto, unfolding(crate::specs::ReplyForm::form_of, crate::specs::ReplyForm::done_form))]
+    pub fn form(self, kind: u8, bytes: &[u8]) -> Result<u32, Misreply>
         ensures { result ≡ form_of self kind bytes.now }
     {
-        if kind == 0 {
-            return ReplyForm::Unanswered;
-        }
-        if 1 < kind {
-            return ReplyForm::Misshapen;
-        }
-        if self.reads {
-            let asked = self.bytes;
-            return read_form(asked, bytes);
-        }
-        if bytes.len() == 0 {
-            ReplyForm::Good(0)
-        } else {
-            ReplyForm::Misshapen
+        match kind {
+            0 => Err(Misreply::Unanswered),
+            1 if self.reads => read_form(self.bytes, bytes),
+            1 if bytes.is_empty() => Ok(0),
+            _ => Err(Misreply::Misshapen),
         }
     }
 }

@@ -1,4 +1,5 @@
 -- A file's number is 0 exactly where the file is what document 01 asks. Assumes nothing.
+use Rattle.std.specs.Prelude.{Ok, Err}
 use mathlib.Core.Path.{◌≡◌, refl, sym, ap, ◌∙◌}
 use mathlib.Core.List.{List}
 use Prim.Native.Nat.{ℕ, ◌≤◌}
@@ -8,11 +9,9 @@ use borrow.Author.Tests.{ltb-false, not-false}
 use Rattle.counts.specs.Counts.{line_number}
 use Rattle.cuts.specs.Lines.{lines_of}
 use Rattle.cuts.proofs.TextExactly.{text_exactly}
-use Rattle.summary.specs.declared.FileAnswer.{FileAnswer}
-use Rattle.summary.specs.declared.FileAnswer.TheVariants.{Accepted, Refused}
 use Rattle.image.specs.Tests.{known_device, too_long, too_few, other_device}
 use Rattle.image.specs.Check.{check_of}
-use Rattle.summary.specs.Answers.{answer_told}
+use Rattle.summary.specs.Answers.{FileAnswer, answer_told}
 use Rattle.summary.proofs.Numbers.{refusal_number}
 use Rattle.image.specs.Meets.{Meets, AcceptedExactly}
 use Rattle.image.proofs.TestsPass.{Passed, passed, accepts, answer_is}
@@ -56,9 +55,9 @@ meets {s} p =
 
 -- ---- the number
 
-pub zero_accepts : (a : FileAnswer) → (answer_told a).number ≡ 0 → a ≡ Accepted
-zero_accepts Accepted e = refl
-zero_accepts (Refused r) e = absurd (let y : ⊥ = omega (arith, (refusal_number r).some) in y)
+pub zero_accepts : (a : FileAnswer) → (answer_told a).number ≡ 0 → a ≡ Ok tt
+zero_accepts (Ok tt) e = refl
+zero_accepts (Err r) e = absurd (let y : ⊥ = omega (arith, (refusal_number r).some) in y)
 
 pub accepted_exactly : (s : List ℕ) → AcceptedExactly s
 accepted_exactly s =

@@ -1,5 +1,6 @@
 -- An accepted file holds its write lines, 5 to n, from the place that the summary names, and the burn is the last; its counts
 -- are those of a file. Assumes nothing.
+use Rattle.std.specs.Prelude.{Ok, Err}
 use mathlib.Core.Path.{◌≡◌, refl, sym, ◌∙◌}
 use mathlib.Core.List.{List, [], append-nil}
 use Prim.Native.Nat.{ℕ, ◌≤◌}
@@ -9,13 +10,10 @@ use borrow.Author.Tests.{ltb-false, eqb-false}
 use Rattle.counts.specs.Counts.{config_id}
 use Rattle.line.specs.declared.Line.{Line}
 use Rattle.cuts.specs.Lines.{lines_of}
-use Rattle.image.specs.declared.Walked.{Walked}
-use Rattle.image.specs.declared.Walked.TheVariants.{Through, Bad}
-use Rattle.summary.specs.declared.FileAnswer.TheVariants.{Accepted}
 use Rattle.image.specs.Says.{id_of, file_kind, file_configs, id_line, summary_of}
 use Rattle.image.specs.Tests.{too_few, fits_none}
 use Rattle.image.specs.Check.{first_refusal, check_of}
-use Rattle.image.specs.Private.Walk.{start, facts_from}
+use Rattle.image.specs.Private.Walk.{start, facts_from, Walked}
 use Rattle.image.proofs.Holds.{Holds, BurnLast, Sound}
 use Rattle.image.proofs.SpotPlaces.{place_from, configs-le}
 use Rattle.image.proofs.Counting.{count_is}
@@ -28,10 +26,10 @@ use Rattle.image.proofs.WalkKeeps.{good}
 use Rattle.image.proofs.TestsPass.{Passed, passed, answer_is, summary_is}
 
 -- the tests of an accepted file
-tests_of : (s : List ℕ) → (check_of s).answer ≡ Accepted → Passed s
+tests_of : (s : List ℕ) → (check_of s).answer ≡ Ok tt → Passed s
 tests_of s e = passed s (sym (answer_is s) ∙ e)
 
-says_of_lem : (s : List ℕ) → (check_of s).answer ≡ Accepted → (check_of s).summary ≡ summary_of s
+says_of_lem : (s : List ℕ) → (check_of s).answer ≡ Ok tt → (check_of s).summary ≡ summary_of s
 says_of_lem s e = summary_is s (sym (answer_is s) ∙ e)
 
 -- the walk over good lines ends whole, so the text holds them
@@ -39,12 +37,12 @@ holds_of : {s : List ℕ} → Passed s → Holds s 0 1 (says_of (lines_of s))
 unfolding answer_by start first_refusal
 holds_of {s} p = ended (facts_from start (lines_of s)) refl (walked_first start (lines_of s) [] ∙ rw append-nil (read_lines (lines_of s) 1 p.reads))
   where
-    ended : (t : Walked) → facts_from start (lines_of s) ≡ t → answer_by t Accepted ≡ Accepted → Holds s 0 1 (says_of (lines_of s))
-    ended (Through g) w e = good s g w
-    ended (Bad r) w e = refused r e
+    ended : (t : Walked) → facts_from start (lines_of s) ≡ t → answer_by t (Ok tt) ≡ Ok tt → Holds s 0 1 (says_of (lines_of s))
+    ended (Ok g) w e = good s g w
+    ended (Err r) w e = refused r e
 
 -- behind the four lines of the header
-pub held_writes : (s : List ℕ) → (check_of s).answer ≡ Accepted → Holds s (summary_of s).line5 5 (drop 4 (says_of (lines_of s)))
+pub held_writes : (s : List ℕ) → (check_of s).answer ≡ Ok tt → Holds s (summary_of s).line5 5 (drop 4 (says_of (lines_of s)))
 unfolding too_few summary_of
 held_writes s e =
     let p = tests_of s e in
@@ -54,7 +52,7 @@ held_writes s e =
     rw (place_from 4 s) at (holds-drop s 4 ls 0 1 (omega arith) (holds_of p))
 
 -- the burn is the last of them, and no other
-pub burn_writes : (s : List ℕ) → (check_of s).answer ≡ Accepted → BurnLast (drop 4 (says_of (lines_of s)))
+pub burn_writes : (s : List ℕ) → (check_of s).answer ≡ Ok tt → BurnLast (drop 4 (says_of (lines_of s)))
 unfolding too_few
 burn_writes s e =
     let p = tests_of s e in
@@ -68,7 +66,7 @@ id-le : (l : Line) → (id_of l).0 ≤ 15
 unfolding id_of
 id-le l = omega arith
 
-pub sound : (s : List ℕ) → (check_of s).answer ≡ Accepted → Sound (check_of s).summary
+pub sound : (s : List ℕ) → (check_of s).answer ≡ Ok tt → Sound (check_of s).summary
 unfolding fits_none summary_of file_configs
 sound s e =
     let p = tests_of s e in

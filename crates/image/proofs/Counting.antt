@@ -6,9 +6,9 @@ use Prim.Native.Nat.{ℕ, ◌+◌, ◌*◌, ◌/◌, ◌%◌, ◌≤◌, ◌<◌
 use native.Mathlib.Omega.{arith}
 use lib.Dec.{eqb, ltb, leb}
 use borrow.Author.Tests.{eqb-true, eqb-false, ltb-true, leb-true, le-leb}
+use Rattle.std.specs.Prelude.{Some}
 use Rattle.counts.specs.declared.Kind.{Kind}
 use Rattle.counts.specs.declared.Kind.TheVariants.{Legacy, Production}
-use Rattle.counts.specs.declared.KindFound.TheVariants.{Is}
 use Rattle.counts.specs.Counts.{config_number, step_of, crc_place, kind_of, line_count, up_to8, configs_of, identifier_line, crc_line}
 use Rattle.counts.proofs.InsideHolds.{inside}
 use Rattle.promise.proofs.Basics.{split}
@@ -19,7 +19,7 @@ use Rattle.image.specs.Meets.{KindHas, legacy0, legacy1, production6, production
 -- ---- the revision's first byte
 
 pub record Known (b : ℕ) (kind : Kind) (step place : ℕ) : Type 0 where
-  pub found : kind_of b ≡ Is kind
+  pub found : kind_of b ≡ Some kind
   pub steps : step ≡ step_of kind
   pub places : place ≡ crc_place kind
 

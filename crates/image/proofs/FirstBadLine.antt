@@ -1,4 +1,6 @@
 -- The lines of a text either all read as good or one of them is the first that does not, and the answer of the text by that. Assumes nothing.
+use Rattle.summary.specs.Answers.{FileAnswer}
+use Rattle.std.specs.Prelude.{Err, Ok}
 use mathlib.Core.Path.{◌≡◌, refl, ap}
 use mathlib.Core.Logic.{◌⊎◌, inl, inr}
 use mathlib.Core.Bool.{false}
@@ -10,13 +12,9 @@ use borrow.Author.Tests.{lt-ltb, le-ltb}
 use Rattle.counts.specs.Counts.{line_number}
 use Rattle.cuts.specs.Lines.{lines_of}
 use Rattle.line.specs.declared.LineRefusal.{LineRefusal}
-use Rattle.line.specs.declared.LineReading.{LineReading}
-use Rattle.line.specs.declared.LineReading.TheVariants as reading
-use Rattle.line.specs.Reading.{read_line}
+use Rattle.line.specs.Reading.{read_line, LineReading}
 use Rattle.summary.specs.declared.Whole.TheVariants.{Size}
 use Rattle.summary.specs.declared.Refusal.TheVariants as refusal
-use Rattle.summary.specs.declared.FileAnswer.{FileAnswer}
-use Rattle.summary.specs.declared.FileAnswer.TheVariants.{Refused}
 use Rattle.image.specs.Tests.{too_long}
 use Rattle.image.specs.Check.{refused_if, first_refusal, line_answer, line_answers, whole_answers, answer_of}
 use Rattle.image.proofs.FirstRefusal.{Reads, AllRead}
@@ -29,7 +27,7 @@ pub record FirstBad (n : ℕ) (ts : List (List ℕ)) : Type 0 where
   pub refused : LineRefusal
   pub are : ts ≡ before ++ (text ∷ behind)
   pub good : AllRead n before
-  pub bad : read_line (line_number (n + length before)) text ≡ reading.Refused refused
+  pub bad : read_line (line_number (n + length before)) text ≡ Err refused
 
 none_read : (n : ℕ) → AllRead n []
 none_read n i h = absurd (let y : ⊥ = omega arith in y)
@@ -43,11 +41,11 @@ lines_either n [] = inl (none_read n)
 lines_either n (t ∷ ts) = by (read_line (line_number n) t) refl (lines_either (n + 1) ts)
   where
     by : (r : LineReading) → read_line (line_number n) t ≡ r → AllRead (n + 1) ts ⊎ FirstBad (n + 1) ts → AllRead n (t ∷ ts) ⊎ FirstBad n (t ∷ ts)
-    by (reading.Refused r) e more =
+    by (Err r) e more =
         let here : n + 0 ≡ n = omega arith in
         inr (record { before = []; behind = ts; text = t; refused = r; are = refl; good = none_read n; bad = rw here e })
-    by (reading.Good l) e (inl all) = inl (more_read n t ts (record { line = l; good = e }) all)
-    by (reading.Good l) e (inr b) =
+    by (Ok l) e (inl all) = inl (more_read n t ts (record { line = l; good = e }) all)
+    by (Ok l) e (inr b) =
         let on : n + suc (length b.before) ≡ n + 1 + length b.before = omega arith in
         inr (record {
           before = t ∷ b.before;
@@ -61,12 +59,12 @@ lines_either n (t ∷ ts) = by (read_line (line_number n) t) refl (lines_either 
 
 -- the answers of the lines up to it
 first_bad : (n : ℕ) (before behind : List (List ℕ)) (t : List ℕ) (r : LineRefusal) (more : List FileAnswer) → AllRead n before →
-    read_line (line_number (n + length before)) t ≡ reading.Refused r →
-    first_refusal (line_answers n (before ++ (t ∷ behind)) ++ more) ≡ Refused (refusal.Line (line_number (n + length before)) r)
+    read_line (line_number (n + length before)) t ≡ Err r →
+    first_refusal (line_answers n (before ++ (t ∷ behind)) ++ more) ≡ Err (refusal.Line (line_number (n + length before)) r)
 unfolding line_answers line_answer first_refusal
 first_bad n [] behind t r more good bad =
     let here : n + 0 ≡ n = omega arith in
-    let e : read_line (line_number n) t ≡ reading.Refused r = rw here at bad in
+    let e : read_line (line_number n) t ≡ Err r = rw here at bad in
     rw (e, here)
 first_bad n (b ∷ before) behind t r more good bad =
     let here : n + 0 ≡ n = omega arith in
@@ -78,7 +76,7 @@ first_bad n (b ∷ before) behind t r more good bad =
 -- ---- the answer of a text
 
 module _ (s : List ℕ) where
-  pub long_answer : 65536 < length s → answer_of s ≡ Refused (refusal.Whole Size)
+  pub long_answer : 65536 < length s → answer_of s ≡ Err (refusal.Whole Size)
   unfolding answer_of too_long refused_if first_refusal
   long_answer h = rw (lt-ltb 65536 (length s) h)
 
@@ -87,8 +85,8 @@ module _ (s : List ℕ) where
   not_long h = le-ltb 65536 (length s) h
 
   pub line_answer_lem : (before behind : List (List ℕ)) (t : List ℕ) (r : LineRefusal) → too_long s ≡ false → before ++ (t ∷ behind) ≡ lines_of s →
-      AllRead 1 before → read_line (line_number (1 + length before)) t ≡ reading.Refused r →
-      answer_of s ≡ Refused (refusal.Line (line_number (1 + length before)) r)
+      AllRead 1 before → read_line (line_number (1 + length before)) t ≡ Err r →
+      answer_of s ≡ Err (refusal.Line (line_number (1 + length before)) r)
   unfolding answer_of refused_if first_refusal
   line_answer_lem before behind t r short are good bad =
       rw (short, ← are) (first_bad 1 before behind t r (whole_answers (before ++ (t ∷ behind))) good bad)

@@ -1,5 +1,6 @@
 -- Tests in turn, each true exactly where the row of its turn applies: the first that is true is the first row that applies, and where
 -- none is true none applies. Assumes nothing.
+use Rattle.std.specs.Prelude.{Ok, Err}
 use mathlib.Core.Path.{◌≡◌, refl}
 use mathlib.Core.Bool.{Bool, true, false}
 use mathlib.Core.List.{List, [], ◌∷◌}
@@ -11,9 +12,7 @@ use Rattle.promise.specs.First.{First}
 use Rattle.promise.proofs.Basics.{split}
 use Rattle.summary.specs.declared.Whole.{Whole}
 use Rattle.summary.specs.declared.Refusal.TheVariants as refusal
-use Rattle.summary.specs.declared.FileAnswer.{FileAnswer}
-use Rattle.summary.specs.declared.FileAnswer.TheVariants.{Accepted, Refused}
-use Rattle.summary.specs.Answers.{whole_number}
+use Rattle.summary.specs.Answers.{FileAnswer, whole_number}
 use Rattle.image.specs.Check.{refused_if, first_refusal}
 
 module _ (Table : ℕ → ℕ → Type 0) where
@@ -23,8 +22,8 @@ module _ (Table : ℕ → ℕ → Type 0) where
 
   -- what an answer says of the table
   pub data Ends : FileAnswer → Type 0 where
-    passes : ((i m : ℕ) → Table i m → ⊥) → Ends Accepted
-    stops : (w : Whole) (turn : ℕ) → First Table turn (whole_number w) → Ends (Refused (refusal.Whole w))
+    passes : ((i m : ℕ) → Table i m → ⊥) → Ends (Ok tt)
+    stops : (w : Whole) (turn : ℕ) → First Table turn (whole_number w) → Ends (Err (refusal.Whole w))
 
 module _ {Table : ℕ → ℕ → Type 0} {turn : ℕ} where
   one_more : NoneBefore Table turn → ((m : ℕ) → Table turn m → ⊥) → NoneBefore Table (suc turn)

@@ -1,4 +1,5 @@
 -- Of every text the check tells what the table of document 01 gives, and nothing else is given for it. Assumes nothing.
+use Rattle.std.specs.Prelude.{Ok, Err}
 use mathlib.Core.Path.{◌≡◌, refl, sym}
 use mathlib.Core.Logic.{◌⊎◌, inl, inr}
 use mathlib.Core.List.{List, []}
@@ -14,9 +15,7 @@ use Rattle.cuts.specs.Lines.{lines_of}
 use Rattle.cuts.proofs.TextExactly.{text_exactly}
 use Rattle.line.proofs.LineExactly.{line_exactly}
 use Rattle.summary.specs.declared.Refusal.TheVariants as refusal
-use Rattle.summary.specs.declared.FileAnswer.{FileAnswer}
-use Rattle.summary.specs.declared.FileAnswer.TheVariants.{Accepted, Refused}
-use Rattle.summary.specs.Answers.{answer_told}
+use Rattle.summary.specs.Answers.{FileAnswer, answer_told}
 use Rattle.image.specs.Check.{answer_of}
 use Rattle.image.specs.Meets.{Spelled}
 use Rattle.image.specs.FileTable.{WholeTable, Faultless, Given, accepted, SIZE, faulty, whole, GivenExactly}
@@ -55,9 +54,9 @@ module _ (s : List ℕ) where
 
   module _ (short : length s ≤ 65536) (reads : AllRead 1 (lines_of s)) where
     end_given : (a : FileAnswer) → answer_of s ≡ a → Ends (WholeTable (values_in (lines_of s))) a → Gives a
-    end_given Accepted e (passes none) = accepted (meets (passed s e))
-    end_given (Refused (refusal.Line _ _)) e x = elim x [ ]
-    end_given (Refused (refusal.Whole w)) e (stops _ turn first) =
+    end_given (Ok tt) e (passes none) = accepted (meets (passed s e))
+    end_given (Err (refusal.Line _ _)) e x = elim x [ ]
+    end_given (Err (refusal.Whole w)) e (stops _ turn first) =
         whole (lines_of s) (values_in (lines_of s)) turn _ short (text_exactly s).cut (faultless (lines_of s) reads) (read_spelled (lines_of s) reads) first
 
     good_given : Gives (answer_of s)

@@ -6,7 +6,7 @@ use Prim.Native.Nat.{ℕ, ◌+◌, ◌*◌, ◌≤◌, ◌<◌}
 use native.Mathlib.Omega.{arith}
 use lib.ListN.{length}
 use borrow.Author.Tests.{eqb-false}
-use Rattle.counts.specs.declared.KindFound.TheVariants.{Is}
+use Rattle.std.specs.Prelude.{Some}
 use Rattle.counts.specs.Counts.{line_number, step_of, crc_place, kind_of, configs_of}
 use Rattle.line.specs.Reading.{line_of}
 use Rattle.line.specs.LineForm.{LineForm}
@@ -43,7 +43,7 @@ module _ {ls vs : List (List ℕ)} (spelled : Spelled ls vs) (forms : Forms vs) 
   -- ---- what the definitions find of it
 
   module _ (l : Laid vs) where
-    pub kind_said : revision_says ls ≡ Is l.kind
+    pub kind_said : revision_says ls ≡ Some l.kind
     kind_said = revision_is spelled forms (omega (arith, laid_many l)) ∙ (has_kind l.revision).found
 
     pub kind_is : file_kind ls ≡ l.kind

@@ -8,7 +8,7 @@ use lib.Dec.{eqb}
 use lib.ListN.{length, get_or}
 use borrow.Author.Tests.{eqb-true}
 use Rattle.counts.specs.Counts.{config_id}
-use Rattle.line.specs.Reading.{data_of, line_of}
+use Rattle.line.specs.Reading.{data_of, line_of, byte}
 use Rattle.line.specs.LineForm.{LineForm}
 use Rattle.promise.proofs.Basics.{and_true}
 use Rattle.line.proofs.LineParts.{slice_get}
@@ -43,7 +43,7 @@ module _ {n : ℕ} {v : List ℕ} (f : LineForm n v) where
 
   -- ---- the numbers
 
-  pub first_is : (line_of v).d0 ≡ data_in 0 v
+  pub first_is : byte (line_of v) 0 ≡ data_in 0 v
   unfolding line_of
   first_is = data_at v 0 data_some
 

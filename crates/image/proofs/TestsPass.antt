@@ -1,12 +1,12 @@
 -- A file is accepted where each test passes, and only there. Assumes nothing.
+use Rattle.summary.specs.Answers.{FileAnswer}
+use Rattle.std.specs.Prelude.{Ok, Err}
 use mathlib.Core.Path.{◌≡◌, refl, ap, ◌∙◌}
 use mathlib.Core.Bool.{false}
 use mathlib.Core.List.{List, []}
 use Prim.Native.Nat.{ℕ}
 use Rattle.cuts.specs.Lines.{lines_of}
 use Rattle.summary.specs.declared.Whole.TheVariants.{Size, Count, Revision, Device, Burn, Spot, Same}
-use Rattle.summary.specs.declared.FileAnswer.{FileAnswer}
-use Rattle.summary.specs.declared.FileAnswer.TheVariants.{Accepted, Refused}
 use Rattle.image.specs.Says.{summary_of}
 use Rattle.image.specs.Tests.{too_long, too_few, other_revision, other_device, fits_none, burn_amiss, other_spot, same_ids}
 use Rattle.image.specs.Check.{refused_if, first_refusal, line_answers, whole_answers, answer_of, checked_as, check_of}
@@ -23,7 +23,7 @@ pub record Passed (s : List ℕ) : Type 0 where
   pub spots : other_spot (lines_of s) ≡ false
   pub differ : same_ids (lines_of s) ≡ false
 
-pub passed : (s : List ℕ) → answer_of s ≡ Accepted → Passed s
+pub passed : (s : List ℕ) → answer_of s ≡ Ok tt → Passed s
 unfolding answer_of whole_answers
 passed s e =
     let ls = lines_of s in
@@ -55,7 +55,7 @@ whole_answer s short reads =
     let ls = lines_of s in
     rw short (append_first (line_answers 1 ls) (whole_answers ls) (read_lines ls 1 reads))
 
-pub accepts : {s : List ℕ} → Passed s → answer_of s ≡ Accepted
+pub accepts : {s : List ℕ} → Passed s → answer_of s ≡ Ok tt
 unfolding whole_answers refused_if first_refusal
 accepts {s} p = whole_answer s p.short p.reads ∙ rw (p.many, p.revision, p.device, p.fits, p.burn, p.spots, p.differ)
 
@@ -64,10 +64,10 @@ unfolding check_of checked_as
 answer_is s = carried (answer_of s)
   where
     carried : (a : FileAnswer) → (checked_as s a).answer ≡ a
-    carried Accepted = refl
-    carried (Refused r) = refl
+    carried (Ok tt) = refl
+    carried (Err r) = refl
 
 -- an accepted file's summary is what its lines say
-pub summary_is : (s : List ℕ) → answer_of s ≡ Accepted → (check_of s).summary ≡ summary_of s
+pub summary_is : (s : List ℕ) → answer_of s ≡ Ok tt → (check_of s).summary ≡ summary_of s
 unfolding check_of checked_as
 summary_is s e = ap (λ (a : FileAnswer). (checked_as s a).summary) e

@@ -1,13 +1,12 @@
 -- Why number 12 is unused, and that no text has it. Assumes nothing.
+use Rattle.std.specs.Prelude.{Ok, Err}
 use mathlib.Core.Path.{◌≡◌}
 use mathlib.Core.List.{List}
 use Prim.Native.Nat.{ℕ, ◌<◌}
 use native.Mathlib.Omega.{arith}
 use lib.ListN.{length}
 use Rattle.counts.specs.Counts.{line_count}
-use Rattle.summary.specs.declared.FileAnswer.{FileAnswer}
-use Rattle.summary.specs.declared.FileAnswer.TheVariants.{Accepted, Refused}
-use Rattle.summary.specs.Answers.{answer_told}
+use Rattle.summary.specs.Answers.{FileAnswer, answer_told}
 use Rattle.summary.proofs.Numbers.{refusal_number}
 use Rattle.image.specs.Says.{file_kind, file_configs}
 use Rattle.image.specs.Check.{check_of}
@@ -30,8 +29,8 @@ none_beyond ls = record { id = λ N h. id_within (file_kind ls) (fits h) h; crc 
     fits h = (count_is (file_kind ls) (length ls) (omega arith)).0
 
 no_answer : (a : FileAnswer) → (answer_told a).number ≡ 12 → ⊥
-no_answer Accepted e = omega arith
-no_answer (Refused r) e = (refusal_number r).not12 e
+no_answer (Ok tt) e = omega arith
+no_answer (Err r) e = (refusal_number r).not12 e
 
 pub unused_12 : (s : List ℕ) → Unused12 s
 unfolding Unused12

@@ -1,4 +1,5 @@
 -- What the walk's facts say of the lines: how many there are, and where the burn stands. Assumes nothing.
+use Rattle.std.specs.Prelude.{Ok}
 use mathlib.Core.Path.{◌≡◌, refl, ◌∙◌}
 use mathlib.Core.Bool.{Bool, true, false, cond}
 use mathlib.Core.List.{List, [], ◌∷◌}
@@ -7,7 +8,6 @@ use native.Mathlib.Omega.{arith}
 use lib.ListN.{length, get_or, drop}
 use Rattle.line.specs.declared.Line.{Line}
 use Rattle.image.specs.declared.Facts.{Facts}
-use Rattle.image.specs.declared.Walked.TheVariants.{Through}
 use Rattle.image.specs.Says.{line_no}
 use Rattle.summary.specs.Burn.{is_burn}
 use Rattle.image.specs.Tests.{some_below, burn_at, burn_amiss}
@@ -22,7 +22,7 @@ unfoldable pub facts_of : Facts → List Line → Facts
 facts_of f [] = f
 facts_of f (l ∷ ls) = facts_of (facts_with f l) ls
 
-pub facts_are : (ts : List (List ℕ)) (f g : Facts) → facts_from f ts ≡ Through g → g ≡ facts_of f (says_of ts)
+pub facts_are : (ts : List (List ℕ)) (f g : Facts) → facts_from f ts ≡ Ok g → g ≡ facts_of f (says_of ts)
 unfolding facts_from facts_of says_of
 facts_are [] f g p = cc
 facts_are (t ∷ ts) f g p = facts_are ts (facts_with f (line_says t)) g (goes f g t ts p).rest

@@ -1,5 +1,6 @@
 -- Where all lines are good, what the walk keeps and what is read at places is what the lines say by their numbers.
 -- Assumes nothing.
+use Rattle.std.specs.Prelude.{Ok}
 use mathlib.Core.Path.{◌≡◌, refl, ap, ◌∙◌}
 use mathlib.Core.List.{List}
 use Prim.Native.Nat.{ℕ, ◌-◌, ◌≤◌, ◌<◌}
@@ -11,22 +12,18 @@ use Rattle.line.specs.declared.Line.{Line}
 use Rattle.cuts.specs.Lines.{lines_of, place_of}
 use Rattle.image.specs.declared.Facts.{Facts}
 use Rattle.image.specs.declared.Spots.{Spots}
-use Rattle.image.specs.declared.Walked.TheVariants.{Through}
-use Rattle.summary.specs.declared.FileAnswer.TheVariants.{Accepted}
-use Rattle.summary.specs.declared.Checked.{Checked}
 use Rattle.image.specs.Says.{identity_of, id_of, crc_of, line_no, file_kind, file_configs, id_line, config_crc_line, eight_of, summary_of}
 use Rattle.image.specs.Tests.{burn_amiss, other_spot, same_ids}
-use Rattle.image.specs.Check.{checked_as}
-use Rattle.image.specs.Private.Walk.{start, facts_from, burn_amiss_in, line_at, off_spot, id_line_at, crc_line_at, spots_to, same_in}
+use Rattle.image.specs.Private.Walk.{start, facts_from, burn_amiss_in, line_at, off_spot, off_spots, id_line_at, crc_line_at, spots_to, same_in}
 use Rattle.image.proofs.Holds.{Holds}
 use Rattle.image.proofs.Search.{below_same}
 use Rattle.image.proofs.Counting.{crc_some}
 use Rattle.image.proofs.WalkSays.{says_of, says-length, says_at}
 use Rattle.image.proofs.HeldLines.{held, line_is}
 use Rattle.image.proofs.WalkBurns.{facts_are, lines_of_lem, burn_amiss_lem}
-use Rattle.image.proofs.WalkSpots.{amiss_is, ids_are, crcs_are, same_is}
+use Rattle.image.proofs.WalkSpots.{ids_are, crcs_are, same_is}
 
-module _ (s : List ℕ) (g : Facts) (whole : facts_from start (lines_of s) ≡ Through g) where
+module _ (s : List ℕ) (g : Facts) (whole : facts_from start (lines_of s) ≡ Ok g) where
   pub good : Holds s 0 1 (says_of (lines_of s))
   unfolding start
   good = held s (lines_of s) 0 start g refl whole
@@ -62,11 +59,9 @@ module _ (s : List ℕ) (g : Facts) (whole : facts_from start (lines_of s) ≡ T
     crc_lines i N = crc_line_lem N i
 
     module _ (k : ℕ) (isConfigs : file_configs (lines_of s) ≡ k) (few : k ≤ 8) where
-      pub other_spot_lem : (spots_to kind s k).amiss ≡ other_spot (lines_of s)
+      pub other_spot_lem : off_spots kind s k ≡ other_spot (lines_of s)
       unfolding other_spot off_spot
-      other_spot_lem =
-          amiss_is kind s k
-          ∙ rw isConfigs (below_same k _ _ (λ N h. rw (id_line_lem N, crc_line_lem N)))
+      other_spot_lem = rw isConfigs (below_same k _ _ (λ N h. rw (id_line_lem N, crc_line_lem N)))
 
       ids_said : (spots_to kind s k).ids ≡ eight_of k (λ N. id_of (id_line (lines_of s) N)) (config_id 0)
       ids_said = ids_are kind s k few ∙ ap (λ (f : ℕ → Line). eight_of k (λ N. id_of (f N)) (config_id 0)) id_lines
@@ -80,13 +75,8 @@ module _ (s : List ℕ) (g : Facts) (whole : facts_from start (lines_of s) ≡ T
 
       -- what is said where no test is true, by what is read for it
       pub said : {identity line5 : ℕ} {spots : Spots} → identity ≡ identity_of (line_at (line_number 1) s) → line5 ≡ place_of 4 s → spots_to kind s k ≡ spots
-          → ◌≡◌ {A = Checked}
-          (record {
-            answer = Accepted;
-            summary = record { kind = kind; identity = identity; lines = g.lines; configs = k; line5 = line5; ids = spots.ids; crcs = spots.crcs };
-          })
-          (checked_as s Accepted)
-      unfolding checked_as summary_of
+          → record { kind = kind; identity = identity; lines = g.lines; configs = k; line5 = line5; ids = spots.ids; crcs = spots.crcs } ≡ summary_of s
+      unfolding summary_of
       said p q r =
           let ids = ids_said in
           let crcs = crcs_said in

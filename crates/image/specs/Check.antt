@@ -1,38 +1,34 @@
 -- The answer for a whole file: the first fault in a written list of tests, in the order of document 01, "Numbers for a file".
 -- Assumes nothing.
-use Rattle.std.specs.Prelude.{ℕ, ◌+◌, Bool, true, false, List, [], ◌∷◌, ◌++◌}
+use Rattle.std.specs.Prelude.{ℕ, ◌+◌, Bool, true, false, List, [], ◌∷◌, ◌++◌, Ok, Err}
 use Rattle.counts.specs.declared.LineNumber.{LineNumber}
 use Rattle.counts.specs.Counts.{line_number}
-use Rattle.line.specs.declared.LineReading.{LineReading}
-use Rattle.line.specs.declared.LineReading.TheVariants as reading
 use Rattle.cuts.specs.Lines.{lines_of}
-use Rattle.line.specs.Reading.{read_line}
+use Rattle.line.specs.Reading.{LineReading, read_line}
 use Rattle.summary.specs.declared.Whole.{Whole}
 use Rattle.summary.specs.declared.Whole.TheVariants.{Size, Count, Revision, Device, Burn, Spot, Same}
 use Rattle.summary.specs.declared.Refusal.{Refusal}
 use Rattle.summary.specs.declared.Refusal.TheVariants as refusal
-use Rattle.summary.specs.declared.FileAnswer.{FileAnswer}
-use Rattle.summary.specs.declared.FileAnswer.TheVariants.{Accepted, Refused}
 use Rattle.summary.specs.declared.Checked.{Checked}
 use Rattle.image.specs.Says.{summary_of}
-use Rattle.summary.specs.Answers.{no_summary}
+use Rattle.summary.specs.Answers.{FileAnswer, no_summary}
 use Rattle.image.specs.Tests.{too_long, too_few, other_revision, other_device, fits_none, burn_amiss, other_spot, same_ids}
 
 -- ---- the order
 
 unfoldable pub refused_if : Bool → Whole → FileAnswer
-refused_if true w = Refused (refusal.Whole w)
-refused_if false w = Accepted
+refused_if true w = Err (refusal.Whole w)
+refused_if false w = Ok tt
 
 unfoldable pub first_refusal : List FileAnswer → FileAnswer
-first_refusal [] = Accepted
-first_refusal (Accepted ∷ more) = first_refusal more
-first_refusal (Refused r ∷ more) = Refused r
+first_refusal [] = Ok tt
+first_refusal ((Ok tt) ∷ more) = first_refusal more
+first_refusal (Err r ∷ more) = Err r
 
 -- a line's own answer, 2 to 6
 unfoldable pub line_answer : LineNumber → LineReading → FileAnswer
-line_answer n (reading.Good l) = Accepted
-line_answer n (reading.Refused r) = Refused (refusal.Line n r)
+line_answer n (Ok l) = Ok tt
+line_answer n (Err r) = Err (refusal.Line n r)
 
 -- those of all lines, the first of which has the number n
 unfoldable pub line_answers : ℕ → List (List ℕ) → List FileAnswer
@@ -51,11 +47,11 @@ unfoldable pub answer_of : List ℕ → FileAnswer
 answer_of s = first_refusal (refused_if (too_long s) Size ∷ (line_answers 1 (lines_of s) ++ whole_answers (lines_of s)))
 
 abbrev pub refused_by : Refusal → Checked
-refused_by r = record { answer = Refused r; summary = no_summary }
+refused_by r = record { answer = Err r; summary = no_summary }
 
 unfoldable pub checked_as : List ℕ → FileAnswer → Checked
-checked_as s Accepted = record { answer = Accepted; summary = summary_of s }
-checked_as s (Refused r) = refused_by r
+checked_as s (Ok tt) = record { answer = (Ok tt); summary = summary_of s }
+checked_as s (Err r) = refused_by r
 
 unfoldable pub check_of : List ℕ → Checked
 check_of s = checked_as s (answer_of s)

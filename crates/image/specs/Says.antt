@@ -1,17 +1,15 @@
 -- What the lines of a file say, one by one (document 01, "The whole file"): by their numbers, counted from 1, and by the bytes
 -- that their digits spell. Assumes nothing.
-use Rattle.std.specs.Prelude.{ℕ, ◌+◌, ◌-◌, ◌*◌, ◌%◌, Bool, cond, List, [], ◌∷◌, eqb, ltb, length, get_or}
+use Rattle.std.specs.Prelude.{ℕ, ◌+◌, ◌-◌, ◌*◌, ◌%◌, Bool, cond, List, [], ◌∷◌, eqb, ltb, length, get_or, Option, Some, None}
 use Rattle.counts.specs.declared.ConfigId.{ConfigId}
 use Rattle.counts.specs.declared.LineNumber.{LineNumber}
 use Rattle.counts.specs.declared.Kind.{Kind}
 use Rattle.counts.specs.declared.Kind.TheVariants.{Legacy}
-use Rattle.counts.specs.declared.KindFound.{KindFound}
-use Rattle.counts.specs.declared.KindFound.TheVariants.{Is, Unknown}
 use Rattle.counts.specs.Counts.{line_number, config_number, config_id, kind_of, configs_of, identifier_line, crc_line}
 use Rattle.line.specs.declared.Line.{Line}
 use Rattle.cuts.specs.Lines.{lines_of, place_of}
 use Rattle.line.specs.Digits.{digit_val, values_of}
-use Rattle.line.specs.Reading.{line_of}
+use Rattle.line.specs.Reading.{byte, line_of}
 use Rattle.summary.specs.declared.Summary.{Summary}
 
 -- four bytes as a number, the highest first
@@ -20,23 +18,23 @@ word a b c d = 16777216 * a + 65536 * b + 256 * c + d
 
 -- the device identity, highest byte first
 unfoldable pub identity_of : Line → ℕ
-identity_of l = word l.d0 l.d1 l.d2 l.d3
+identity_of l = word (byte l 0) (byte l 1) (byte l 2) (byte l 3)
 
 -- the identifier: the line's tenth digit, which is the low half of the first data byte
 unfoldable pub id_of : Line → ConfigId
-id_of l = config_id (l.d0 % 16)
+id_of l = config_id (byte l 0 % 16)
 
 -- the configuration CRC: the four data bytes, lowest first
 unfoldable pub crc_of : Line → ℕ
-crc_of l = word l.d3 l.d2 l.d1 l.d0
+crc_of l = word (byte l 3) (byte l 2) (byte l 1) (byte l 0)
 
 unfoldable pub is_c6 : Line → Bool
 is_c6 l = eqb l.command 0xC6
 
 -- Legacy where the revision is none that is known: such a file is refused
-unfoldable pub kind_in : KindFound → Kind
-kind_in (Is kind) = kind
-kind_in Unknown = Legacy
+unfoldable pub kind_in : Option Kind → Kind
+kind_in (Some kind) = kind
+kind_in None = Legacy
 
 -- of a file's lines
 module _ (ls : List (List ℕ)) where
@@ -45,8 +43,8 @@ module _ (ls : List (List ℕ)) where
   line_no n = line_of (values_of digit_val (get_or ls (n.0 - 1) []))
 
   -- the revision's first byte says the kind
-  unfoldable pub revision_says : KindFound
-  revision_says = kind_of (line_no (line_number 2)).d0
+  unfoldable pub revision_says : Option Kind
+  revision_says = kind_of (byte (line_no (line_number 2)) 0)
 
   unfoldable pub file_kind : Kind
   file_kind = kind_in revision_says

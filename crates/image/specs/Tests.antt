@@ -1,10 +1,10 @@
 -- The tests of the whole file, each true where its number is given (document 01, "Numbers for a file"). Assumes nothing.
-use Rattle.std.specs.Prelude.{ℕ, zero, suc, ◌+◌, ◌-◌, Bool, true, false, cond, not, List, eqb, ltb, length}
+use Rattle.std.specs.Prelude.{ℕ, zero, suc, ◌+◌, ◌-◌, Bool, true, false, cond, not, List, eqb, ltb, length, Option, Some, None}
 use Rattle.promise.specs.Lists.{is_in}
-use Rattle.counts.specs.declared.KindFound.{KindFound}
-use Rattle.counts.specs.declared.KindFound.TheVariants.{Is, Unknown}
+use Rattle.counts.specs.declared.Kind.{Kind}
 use Rattle.counts.specs.Counts.{line_number}
 use Rattle.line.specs.declared.Line.{Line}
+use Rattle.line.specs.Reading.{byte}
 use Rattle.image.specs.Says.{id_of, is_c6, line_no, revision_says, file_configs, id_line, config_crc_line}
 use Rattle.summary.specs.Burn.{is_burn}
 use Rattle.image.specs.Parts.{parts}
@@ -17,11 +17,11 @@ some_below (suc k) test = cond (some_below k test) true (test k)
 -- 49D2, the middle byte of one of the parts, 00
 unfoldable pub known_device : Line → Bool
 known_device l =
-    cond (eqb l.d0 0x49) (cond (eqb l.d1 0xD2) (cond (eqb l.d3 0x00) (is_in l.d2 parts) false) false) false
+    cond (eqb (byte l 0) 0x49) (cond (eqb (byte l 1) 0xD2) (cond (eqb (byte l 3) 0x00) (is_in (byte l 2) parts) false) false) false
 
-unfoldable pub is_unknown : KindFound → Bool
-is_unknown (Is kind) = false
-is_unknown Unknown = true
+unfoldable pub is_unknown : Option Kind → Bool
+is_unknown (Some kind) = false
+is_unknown None = true
 
 -- SIZE: more than 65,536 bytes
 unfoldable pub too_long : List ℕ → Bool

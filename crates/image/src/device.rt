@@ -8,7 +8,7 @@ use line::Line;
 
 // Whether a middle byte is that of an accepted part: an arm for each row of the guide's table "Supported Devices", in its order, with
 // the part's name and whole identity behind it. docs/PARTS.md has the rows to sign, and tests/check-parts compares.
-#[tactic(auto, using(counts::proofs::Tests::tests), unfolding(promise::specs::Lists::is_in))]
+#[tactic(auto, unfolding(promise::specs::Lists::is_in))]
 fn known_part(middle: u8) -> bool
     ensures { result ≡ is_in middle parts }
 {
@@ -47,17 +47,12 @@ fn known_part(middle: u8) -> bool
 }
 
 // Whether line 1 holds one of them.
-#[tactic(auto, using(counts::proofs::Tests::tests), unfolding(crate::specs::Tests::known_device))]
+#[tactic(auto, unfolding(crate::specs::Tests::known_device))]
 pub(crate) fn known_device(l: Line) -> bool
     ensures { result ≡ known_device l }
 {
-    if l.d0 == 0x49 {
-        if l.d1 == 0xD2 {
-            if l.d3 == 0 { known_part(l.d2) } else { false }
-        } else {
-            false
-        }
-    } else {
-        false
+    match l.bytes {
+        [0x49, 0xD2, middle, 0] => known_part(middle),
+        _ => false,
     }
 }

@@ -1,21 +1,14 @@
 // The pass over the lines: each good line is taken out, and the first faulty one's refusal is handed on.
-ghost use Rattle.std.specs.Prelude.{◌≡◌, cond, true, length, ◌+◌, ◌<◌, ◌≤◌, ◌^◌};
-ghost use Rattle.pec.specs.Lent.{IsTable};
+ghost use Rattle.std.specs.Prelude.{◌≡◌, length, ◌+◌, ◌<◌, ◌≤◌, ◌^◌};
 ghost use Rattle.cuts.specs.Lines.{lines_of};
-ghost use Rattle.line.specs.Digits.{IsDigits};
-ghost use Rattle.image.specs.Private.Walk.{start, facts_with, facts_from};
+ghost use Rattle.counts.specs.Counts.{line_number};
+ghost use Rattle.line.specs.Reading.{next_line};
+ghost use Rattle.image.specs.Private.Walk.{start, with_number, facts_with, facts_from};
 
-use crate::{Facts, Walked};
+use crate::Facts;
 use counts::LineNumber;
-use line::{Line, NextLine};
+use line::Line;
 use summary::{Refusal, is_burn};
-
-// What was seen once stays seen.
-pub(crate) fn either(a: bool, b: bool) -> bool
-    ensures { result ≡ cond a true b }
-{
-    if a { true } else { b }
-}
 
 // The facts with one good line more.
 #[tactic(auto, unfolding(crate::specs::Private::Walk::facts_with))]
@@ -25,15 +18,25 @@ fn facts_with(f: Facts, l: Line) -> Facts
 {
     Facts {
         lines: f.lines + 1,
-        early: either(f.burnt, f.early),
+        early: f.burnt || f.early,
         burnt: is_burn(l),
     }
 }
 
+// The line at a place, behind the lines of these facts.
+#[tactic(auto, unfolding(crate::specs::Private::Walk::with_number))]
+fn line_after(s: &[u8], at: usize, f: Facts) -> Result<Option<(Line, usize)>, Refusal>
+    requires { f.lines + 1 < 2 ^ 32 }
+    ensures { result ≡ with_number (line_number (f.lines + 1)) (next_line (line_number (f.lines + 1)) at s.now) }
+{
+    let n = LineNumber(f.lines + 1);
+    line::next_at(s, at, n).map_err(|refusal| Refusal::Line(n, refusal))
+}
+
 // The facts of all lines, or the refusal of the first faulty one.
-#[tactic(auto, using(promise::proofs::Basics::via, line::proofs::LentIsRight::read_is, crate::proofs::WalkSteps::facts_end, crate::proofs::WalkSteps::facts_stop, crate::proofs::WalkSteps::facts_took, crate::proofs::WalkSteps::with_lines), unfolding(crate::specs::Private::Walk::start))]
-pub(crate) fn facts_of(digits: &[u8; 256], table: &[u8; 256], s: &[u8]) -> Walked
-    requires { (IsDigits digits.now × IsTable table.now) × (length s.now ≤ 65536) }
+#[tactic(auto, unfolding(crate::specs::Private::Walk::start))]
+pub(crate) fn facts_of(s: &[u8]) -> Result<Facts, Refusal>
+    requires { length s.now ≤ 65536 }
     ensures { result ≡ facts_from start (lines_of s.now) }
 {
     let mut facts = Facts {
@@ -42,20 +45,9 @@ pub(crate) fn facts_of(digits: &[u8; 256], table: &[u8; 256], s: &[u8]) -> Walke
         burnt: false,
     };
     let mut at: usize = 0;
-    loop {
-        let n = LineNumber(facts.lines + 1);
-        let found = line::read_at(digits, table, s, at, n);
-        match found {
-            NextLine::End => {
-                return Walked::Through(facts);
-            }
-            NextLine::Took(line, next) => {
-                facts = facts_with(facts, line);
-                at = next;
-            }
-            NextLine::Stopped(refusal) => {
-                return Walked::Bad(Refusal::Line(n, refusal));
-            }
-        }
+    while let Some((line, next)) = line_after(s, at, facts)? {
+        facts = facts_with(facts, line);
+        at = next;
     }
+    Ok(facts)
 }

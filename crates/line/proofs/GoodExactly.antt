@@ -13,10 +13,9 @@ use Rattle.counts.specs.declared.LineNumber.{LineNumber}
 use Rattle.counts.specs.Counts.{line_number}
 use Rattle.line.specs.declared.Line.{Line}
 use Rattle.line.specs.declared.LineRefusal.{LineRefusal}
-use Rattle.line.specs.declared.LineReading.{LineReading}
-use Rattle.line.specs.declared.LineReading.TheVariants.{Good, Refused}
 use Rattle.line.specs.Digits.{digit_val, all_digits, values_of}
-use Rattle.line.specs.Reading.{bad_pairs, length_right, crc_right, form_right, line_of, read_values, read_digits, read_line}
+use Rattle.line.specs.Reading.{LineReading, bad_pairs, length_right, crc_right, form_right, line_of, read_values, read_digits, read_line}
+use Rattle.std.specs.Prelude.{Ok, Err}
 use Rattle.line.specs.LineForm.{Spells, Row, LineForm}
 use Rattle.promise.proofs.Basics.{split}
 use Rattle.line.proofs.LineParts.{values_length}
@@ -55,7 +54,7 @@ module _ {n : ℕ} {v : List ℕ} (f : LineForm n v) where
       let c = row_count f.row in
       rw (eq-eqb (d % 2) 0 (omega arith), le-ltb d 10 (omega (arith, form-length)), le-ltb 74 d (omega (arith, form-length)))
 
-pub form_good : (n : LineNumber) (t v : List ℕ) → Spells t v → LineForm n.0 v → read_line n t ≡ Good (line_of v)
+pub form_good : (n : LineNumber) (t v : List ℕ) → Spells t v → LineForm n.0 v → read_line n t ≡ Ok (line_of v)
 unfolding read_line read_digits read_values
 form_good n t v s f =
     rw (spells_digits s, pairs_right f (length t) (spells-length s), spells_values s, length_right_lem f, crc_right_lem f, form_right_lem f)
@@ -84,15 +83,15 @@ pub record Formed (n : ℕ) (t : List ℕ) (l : Line) : Type 0 where
   pub form : LineForm n (values_of digit_val t)
   pub line : l ≡ line_of (values_of digit_val t)
 
-refused : {P : Type 0} (r : LineRefusal) (l : Line) → Refused r ≡ Good l → P
+refused : {P : Type 0} (r : LineRefusal) (l : Line) → Err r ≡ Ok l → P
 refused r l e = let z : ◌≡◌ {A = ℕ} 0 1 = cc in absurd (let y : ⊥ = omega arith in y)
 
 -- a test that a good line has passed
-must : (test : Bool) (x : LineReading) (r : LineRefusal) (l : Line) → cond test x (Refused r) ≡ Good l → (test ≡ true) × (x ≡ Good l)
+pub must : (test : Bool) (x : LineReading) (r : LineRefusal) (l : Line) → cond test x (Err r) ≡ Ok l → (test ≡ true) × (x ≡ Ok l)
 must true x r l e = (refl, e)
 must false x r l e = refused r l e
 
-must_not : (test : Bool) (x : LineReading) (r : LineRefusal) (l : Line) → cond test (Refused r) x ≡ Good l → (test ≡ false) × (x ≡ Good l)
+pub must_not : (test : Bool) (x : LineReading) (r : LineRefusal) (l : Line) → cond test (Err r) x ≡ Ok l → (test ≡ false) × (x ≡ Ok l)
 must_not true x r l e = refused r l e
 must_not false x r l e = (refl, e)
 
@@ -104,7 +103,7 @@ pairs_of d e =
     (λ f. split (ltb d 10) (λ g. absurd (true≢false (simp (f, g) at e))) (λ g. (eqb-true (d % 2) 0 f, ltb-false d 10 g)))
     (λ f. absurd (true≢false (simp f at e)))
 
-pub good_form : (n : LineNumber) (t : List ℕ) (l : Line) → 1 ≤ n.0 → read_line n t ≡ Good l → Formed n.0 t l
+pub good_form : (n : LineNumber) (t : List ℕ) (l : Line) → 1 ≤ n.0 → read_line n t ≡ Ok l → Formed n.0 t l
 unfolding read_line read_digits read_values
 good_form n t l h e =
     let v = values_of digit_val t in
@@ -112,7 +111,7 @@ good_form n t l h e =
     let p2 = must_not (bad_pairs (length t)) (read_values pec n v) _ l p1.1 in
     let p3 = must (length_right v) _ _ l p2.1 in
     let p4 = must (crc_right pec v) _ _ l p3.1 in
-    let p5 = must (form_right n v) (Good (line_of v)) _ l p4.1 in
+    let p5 = must (form_right n v) (Ok (line_of v)) _ l p4.1 in
     let q = pairs_of (length t) p2.0 in
     record {
       spelled = values_spelled t p1.0 q.0;

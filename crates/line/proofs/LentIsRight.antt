@@ -15,12 +15,9 @@ use Rattle.pec.proofs.Entries.{follows, entry_follows}
 use Rattle.counts.specs.declared.LineNumber.{LineNumber}
 use Rattle.cuts.specs.Lines.{cr_lf, lines_of, line_skip}
 use Rattle.line.specs.Digits.{digit_val, is_digit, all_digits, digit_run, values_of, digit_by, IsDigits}
-use Rattle.line.specs.Reading.{covered_of, crc_right, read_values, read_digits, read_line, next_by, next_of, next_line}
+use Rattle.line.specs.Reading.{NextLine, covered_of, crc_right, read_values, read_digits, read_line, next_by, next_of, next_line}
 use Rattle.line.specs.Lent.{ending_of, run_at, by_ending, lent_next}
-use Rattle.line.specs.declared.Ending.{Ending}
-use Rattle.line.specs.declared.Ending.TheVariants.{Other, Next}
-use Rattle.line.specs.declared.NextLine.{NextLine}
-use Rattle.line.specs.declared.NextLine.TheVariants.{End}
+use Rattle.std.specs.Prelude.{Option, Some, None, Ok}
 use Rattle.promise.proofs.Basics.{split}
 use Rattle.line.proofs.LineParts.{run-le, run_digits, values-lt, slice_get, slice_past}
 use Rattle.cuts.proofs.FirstLine.{line_len, crlf_lf, lines_at}
@@ -66,7 +63,7 @@ lf_next b [] k = absurd (false≢true (crlf_lf b 0 k))
 lf_next b (d ∷ s) k = simp (crlf_lf b d k)
 
 -- where the run ends the line, it is the line
-ended : (t : List ℕ) (e next : ℕ) → ending_of e (drop (run t) t) ≡ Next next →
+ended : (t : List ℕ) (e next : ℕ) → ending_of e (drop (run t) t) ≡ Some next →
     (line_len t ≡ run t) × (e + line_skip t ≡ run t + next)
 unfolding ending_of digit_run line_len line_skip
 ended [] e next p = let q : e ≡ next = cc in (refl, omega arith)
@@ -74,13 +71,13 @@ ended (b ∷ s) e next p =
     split (is_digit digit_val b)
     (λ d. let r = ended s e next (simp d at p) in simp (d, not_ten b d, not_cr b (get_or s 0 0) d) (ap suc r.0, omega (arith, r.1)))
     (λ d. split (eqb b 10)
-    (λ h. let z : Next (e + 1) ≡ Next next = simp (d, h) at p in let q : e + 1 ≡ next = cc in simp (d, h) (refl, omega arith))
+    (λ h. let z : Some (e + 1) ≡ Some next = simp (d, h) at p in let q : e + 1 ≡ next = cc in simp (d, h) (refl, omega arith))
     (λ h. split (cr_lf b (get_or s 0 0))
-    (λ k. let z : Next (e + 2) ≡ Next next = simp (d, h, k) at p in let q : e + 2 ≡ next = cc in simp (d, h, k) (refl, omega (arith, lf_next b s k)))
-    (λ k. let z : Other ≡ Next next = simp (d, h, k) at p in let y : ◌≡◌ {A = ℕ} 0 1 = cc in absurd (let x : ⊥ = omega arith in x))))
+    (λ k. let z : Some (e + 2) ≡ Some next = simp (d, h, k) at p in let q : e + 2 ≡ next = cc in simp (d, h, k) (refl, omega (arith, lf_next b s k)))
+    (λ k. let z : None ≡ Some next = simp (d, h, k) at p in let y : ◌≡◌ {A = ℕ} 0 1 = cc in absurd (let x : ⊥ = omega arith in x))))
 
 -- where it does not, the line has a byte that is no digit, and the same run before it
-unended : (t : List ℕ) (e : ℕ) → ending_of e (drop (run t) t) ≡ Other →
+unended : (t : List ℕ) (e : ℕ) → ending_of e (drop (run t) t) ≡ None →
     (all_digits digit_val (take (line_len t) t) ≡ false) × (run (take (line_len t) t) ≡ run t)
 unfolding ending_of digit_run line_len all_digits
 unended [] e p = let y : ◌≡◌ {A = ℕ} 0 1 = cc in absurd (let x : ⊥ = omega arith in x)
@@ -88,21 +85,21 @@ unended (b ∷ s) e p =
     split (is_digit digit_val b)
     (λ d. let r = unended s e (simp d at p) in simp (not_ten b d, not_cr b (get_or s 0 0) d) (simp d (r.0, ap suc r.1)))
     (λ d. split (eqb b 10)
-    (λ h. let z : Next (e + 1) ≡ Other = simp (d, h) at p in let y : ◌≡◌ {A = ℕ} 0 1 = cc in absurd (let x : ⊥ = omega arith in x))
+    (λ h. let z : Some (e + 1) ≡ None = simp (d, h) at p in let y : ◌≡◌ {A = ℕ} 0 1 = cc in absurd (let x : ⊥ = omega arith in x))
     (λ h. split (cr_lf b (get_or s 0 0))
-    (λ k. let z : Next (e + 2) ≡ Other = simp (d, h, k) at p in let y : ◌≡◌ {A = ℕ} 0 1 = cc in absurd (let x : ⊥ = omega arith in x))
+    (λ k. let z : Some (e + 2) ≡ None = simp (d, h, k) at p in let y : ◌≡◌ {A = ℕ} 0 1 = cc in absurd (let x : ⊥ = omega arith in x))
     (λ k. simp (h, k) (simp d (refl, refl)))))
 
 -- ---- reading by lent tables, where the run of digits ends at e
 pub lent_here : (digits table : List ℕ) (n : LineNumber) (at : ℕ) (s : List ℕ) → at < length s → (e : ℕ) →
-    e ≡ at + run_at digits table n at s → (x : Ending) → ending_of e (drop e s) ≡ x →
+    e ≡ at + run_at digits table n at s → (x : Option ℕ) → ending_of e (drop e s) ≡ x →
     lent_next digits table n at s ≡ by_ending digits table n (take (e - at) (drop at s)) x
 unfolding lent_next
 lent_here digits table n at s h e p x q =
     let d : e - at ≡ run_at digits table n at s = omega arith in
     rw (lt-ltb at (length s) h, d, ← p, q)
 
-pub lent_past : (digits table : List ℕ) (n : LineNumber) (at : ℕ) (s : List ℕ) → length s ≤ at → lent_next digits table n at s ≡ End
+pub lent_past : (digits table : List ℕ) (n : LineNumber) (at : ℕ) (s : List ℕ) → length s ≤ at → lent_next digits table n at s ≡ Ok None
 unfolding lent_next
 lent_past digits table n at s h = rw (le-ltb at (length s) h)
 
@@ -123,13 +120,13 @@ module _ {digits table : List ℕ} (digitRule : IsDigits digits) (rule : IsTable
 
   module _ (n : LineNumber) (at : ℕ) where
     -- by what follows the run of digits
-    here : (t : List ℕ) (x : Ending) → ending_of (at + run t) (drop (run t) t) ≡ x →
+    here : (t : List ℕ) (x : Option ℕ) → ending_of (at + run t) (drop (run t) t) ≡ x →
         by_ending digits table n (take (run t) t) x ≡ next_by (read_line n (take (line_len t) t)) (at + line_skip t)
     unfolding by_ending read_line next_by
-    here t Other p =
+    here t None p =
         let q = unended t (at + run t) p in
         rw q.0 (cc (q.1, length-take-le (run t) t (run-le digit_val t)))
-    here t (Next next) p =
+    here t (Some next) p =
         let q = ended t (at + run t) next p in
         let k : next ≡ at + line_skip t = omega (arith, q.1) in
         rw (k, q.0, run_digits digit_val t, read_right n (take (run t) t))

@@ -2,6 +2,7 @@ pub mod LineParts
 pub mod LentIsRight
 pub mod Taking
 pub mod Spelling
+pub mod ReadBytes
 pub mod Rows
 pub mod Order
 pub mod GoodExactly

@@ -15,11 +15,10 @@ use Rattle.line.specs.declared.Line.{Line}
 use Rattle.line.specs.declared.Fault.{Fault}
 use Rattle.line.specs.declared.Fault.TheVariants.{Char, Length, Crc, Form}
 use Rattle.line.specs.declared.LineRefusal.{LineRefusal}
-use Rattle.line.specs.declared.LineReading.{LineReading}
-use Rattle.line.specs.declared.LineReading.TheVariants.{Good, Refused}
 use Rattle.line.specs.Digits.{digit_val, is_digit, all_digits, digit_run, values_of}
 use Rattle.line.specs.Places.{fault_at, last_pair, form_place_of}
-use Rattle.line.specs.Reading.{fault_number, bad_pairs, length_right, crc_right, form_right, read_values, read_digits, read_line}
+use Rattle.line.specs.Reading.{LineReading, fault_number, bad_pairs, length_right, crc_right, form_right, read_values, read_digits, read_line}
+use Rattle.std.specs.Prelude.{Ok, Err}
 use Rattle.line.specs.LineForm.{Digit, Spells}
 use Rattle.line.specs.LineTable.{AllDigit, none, more, FirstField, first_digit}
 use Rattle.line.specs.LineTable.{LineTable, CHAR, PAIRS, LENGTH, CRC, FORM, LineExactly}
@@ -195,13 +194,13 @@ module _ (n : ℕ) (t : List ℕ) (g : 1 ≤ n) where
   -- ---- what a reading must tell
 
   Tells : LineReading → Type 0
-  Tells (Good l) = (m p : ℕ) → LineTable n t m p → ⊥
-  Tells (Refused r) = First (LineTable n t) (fault_number r.fault) r.place.0
+  Tells (Ok l) = (m p : ℕ) → LineTable n t m p → ⊥
+  Tells (Err r) = First (LineTable n t) (fault_number r.fault) r.place.0
 
   -- of a test in its turn: where it fails the row of its number applies, and where it passes that row does not
   test_tells : (test : Bool) (x : LineReading) (f : Fault) (p : ℕ) → passes (fault_number f) ≡ test → Unmet (fault_number f) →
       (test ≡ false → LineTable n t (fault_number f) p) → (test ≡ true → Unmet (suc (fault_number f)) → Tells x) →
-      Tells (cond test x (Refused (fault_at f p)))
+      Tells (cond test x (Err (fault_at f p)))
   unfolding Tells
   test_tells true x f p is before row later = later refl (passed before is)
   test_tells false x f p is before row later = record { applies = row refl; none = before }
@@ -268,17 +267,17 @@ module _ (n : ℕ) (t : List ℕ) (g : 1 ≤ n) where
   -- ---- a reading is one of the two, so each tells the other way round too
 
   abbrev Refuses : LineReading → ℕ → ℕ → Type 0
-  Refuses x m p = (r : LineRefusal) × (x ≡ Refused r) × (fault_number r.fault ≡ m) × (r.place.0 ≡ p)
+  Refuses x m p = (r : LineRefusal) × (x ≡ Err r) × (fault_number r.fault ≡ m) × (r.place.0 ≡ p)
 
   first_refuses : (x : LineReading) → Tells x → (m p : ℕ) → First (LineTable n t) m p → Refuses x m p
   unfolding Tells
-  first_refuses (Good l) tells m p f = absurd (tells m p f.applies)
-  first_refuses (Refused r) tells m p f = let same = first_one one_place tells f in (r, refl, same.0, same.1)
+  first_refuses (Ok l) tells m p f = absurd (tells m p f.applies)
+  first_refuses (Err r) tells m p f = let same = first_one one_place tells f in (r, refl, same.0, same.1)
 
-  none_good : (x : LineReading) → Tells x → ((m p : ℕ) → LineTable n t m p → ⊥) → (l : Line) × (x ≡ Good l)
+  none_good : (x : LineReading) → Tells x → ((m p : ℕ) → LineTable n t m p → ⊥) → (l : Line) × (x ≡ Ok l)
   unfolding Tells
-  none_good (Good l) tells never = (l, refl)
-  none_good (Refused r) tells never = absurd (never _ _ tells.applies)
+  none_good (Ok l) tells never = (l, refl)
+  none_good (Err r) tells never = absurd (never _ _ tells.applies)
 
 pub line_exactly : (n : ℕ) (t : List ℕ) → 1 ≤ n → LineExactly n t
 unfolding Tells

@@ -1,12 +1,12 @@
 -- Runs of digits, the values of pairs, and parts of a list. Assumes nothing.
-use Prim.Native.Nat.{ℕ, zero, suc, ◌+◌, ◌*◌, ◌/◌, ◌≤◌, ◌<◌}
+use Prim.Native.Nat.{ℕ, zero, suc, ◌+◌, ◌-◌, ◌*◌, ◌/◌, ◌≤◌, ◌<◌}
 use mathlib.Core.Bool.{true, false}
 use mathlib.Core.List.{List, [], ◌∷◌}
 use mathlib.Core.Path.{◌≡◌, refl, ◌∙◌}
 use native.Mathlib.Omega.{arith}
 use native.Mathlib.Numerals.{add-one}
-use lib.ListN.{length, get_or, take, drop, drop_of_length-le, get_or-eq_default}
-use lib.Seq.{get_or-drop, get_or-take, slice, slice-cons, length-slice, length-take-le}
+use lib.ListN.{length, get_or, take, drop, length-drop, drop_of_length-le, get_or-eq_default}
+use lib.Seq.{take_all, get_or-drop, get_or-take, slice, slice-cons, length-slice, length-take-le}
 use Rattle.pec.specs.Lent.{step_with, run_with}
 use Rattle.line.specs.Digits.{is_digit, all_digits, digit_run, pair_val, values_of}
 use Rattle.promise.proofs.Basics.{split, drop_at1}
@@ -75,6 +75,10 @@ module _ (digit : ℕ → ℕ) where
   values-lt (a ∷ []) i = omega arith
   values-lt (a ∷ b ∷ s) zero = omega arith
   values-lt (a ∷ b ∷ s) (suc i) = values-lt s i
+
+-- ---- a part of a list from a place to its end
+pub rest_of : (at : ℕ) (s : List ℕ) → take (length s - at) (drop at s) ≡ drop at s
+rest_of at s = take_all (length s - at) (drop at s) (omega (arith, length-drop at s))
 
 -- ---- a part of a list, from f to before e
 module _ (v : List ℕ) (f e : ℕ) where

@@ -9,7 +9,7 @@ use borrow.Author.Tests.{lt-ltb}
 use Rattle.counts.specs.declared.LineNumber.{LineNumber}
 use Rattle.line.specs.declared.Fault.{Fault}
 use Rattle.line.specs.Digits.{IsDigits, digit_by}
-use Rattle.line.specs.Reading.{fault_number}
+use Rattle.line.specs.Reading.{fault_number, next_line}
 use Rattle.line.specs.Lent.{lent_next}
 use Rattle.promise.specs.One.{One}
 use Rattle.promise.proofs.Equal.{one_answer}
@@ -26,3 +26,6 @@ one-digits r q e f =
 
 pub one-read_at : (digits table s : List ℕ) (at : ℕ) (n : LineNumber) → One (λ r. r ≡ lent_next digits table n at s)
 one-read_at digits table s at n = one_answer _
+
+pub one-next_at : (s : List ℕ) (at : ℕ) (n : LineNumber) → One (λ r. r ≡ next_line n at s)
+one-next_at s at n = one_answer _

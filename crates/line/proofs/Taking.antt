@@ -1,5 +1,5 @@
 -- A write line that is taken by the places of its digits is what reading gives there. Assumes nothing.
-use Prim.Native.Nat.{ℕ, zero, suc, ◌+◌, ◌-◌, ◌≤◌, ◌<◌}
+use Prim.Native.Nat.{ℕ, zero, suc, ◌+◌, ◌-◌, ◌/◌, ◌≤◌, ◌<◌}
 use mathlib.Core.Bool.{true, false}
 use mathlib.Core.List.{List, [], ◌∷◌}
 use mathlib.Core.Path.{◌≡◌, ap, ◌∙◌}
@@ -12,9 +12,10 @@ use Rattle.counts.specs.declared.LineNumber.{LineNumber}
 use Rattle.line.specs.Digits.{is_digit, all_digits, digit_run, digit_by, values_of}
 use Rattle.line.specs.Reading.{bad_pairs, body_ok, form_ok, length_right, crc_right, form_right, line_of, read_values, read_digits, next_by}
 use Rattle.line.specs.Lent.{ending_of, read_by, by_ending, lent_next}
+use Rattle.line.specs.declared.Line.{Line}
 use Rattle.line.specs.Private.Quick.{headed, ends_run}
-use Rattle.line.specs.declared.Ending.TheVariants.{Other, Next}
-use Rattle.line.specs.declared.NextLine.TheVariants.{Took}
+use mathlib.Core.Logic.{◌⊎◌, inl, inr}
+use Rattle.std.specs.Prelude.{Some, None, Ok}
 use Rattle.promise.proofs.Basics.{split, and_true, drop_at1}
 use Rattle.line.proofs.LineParts.{values_length}
 use Rattle.line.proofs.LentIsRight.{lent_here}
@@ -30,11 +31,11 @@ run_to digit (suc m) (b ∷ t) p h q =
     let r = and_true (is_digit digit b) (all_digits digit (take m t)) p in
     simp r.0 (ap suc (run_to digit m t r.1 (omega arith) q))
 
-other_next : {next : ℕ} → Other ≡ Next next → ⊥
+other_next : {next : ℕ} → None ≡ Some next → ⊥
 other_next p = let y : ◌≡◌ {A = ℕ} 0 1 = cc in omega arith
 
-ends : (digit : ℕ → ℕ) (at e : ℕ) (s : List ℕ) (next : ℕ) → at ≤ e → e < length s → ends_run digit at e s ≡ Next next →
-    (e ≡ at + digit_run digit (drop at s)) × (ending_of e (drop e s) ≡ Next next)
+ends : (digit : ℕ → ℕ) (at e : ℕ) (s : List ℕ) (next : ℕ) → at ≤ e → e < length s → ends_run digit at e s ≡ Some next →
+    (e ≡ at + digit_run digit (drop at s)) × (ending_of e (drop e s) ≡ Some next)
 unfolding ends_run
 ends digit at e s next h k p =
     split (all_digits digit (take (e - at) (drop at s)))
@@ -47,12 +48,12 @@ ends digit at e s next h k p =
     (λ d. absurd (other_next (simp d at p)))
 
 pub usual_here : (digits table : List ℕ) (n : LineNumber) (at e : ℕ) (s : List ℕ) (next : ℕ) → at ≤ e → e < length s →
-    ends_run (digit_by digits) at e s ≡ Next next →
+    ends_run (digit_by digits) at e s ≡ Some next →
     lent_next digits table n at s ≡ next_by (read_by digits table n (take (e - at) (drop at s))) next
 unfolding by_ending
 usual_here digits table n at e s next h k p =
     let r = ends (digit_by digits) at e s next h k p in
-    lent_here digits table n at s (omega arith) e r.0 (Next next) r.1
+    lent_here digits table n at s (omega arith) e r.0 (Some next) r.1
 
 -- ---- the values of a list, one by one
 
@@ -65,6 +66,11 @@ unfolding values_from
 all_values v i zero h = drop_of_length-le v {i = i} (omega arith)
 all_values v i (suc k) h = rw (drop_at1 v i (omega arith)) (ap (λ (l : List ℕ). get_or v i 0 ∷ l) (all_values v (i + 1) k (omega arith)))
 
+-- with their first three known
+three : (v more : List ℕ) (size : ℕ) → (get_or v 0 0 ≡ 0) × (get_or v 1 0 ≡ size) × (get_or v 2 0 ≡ 0xC0) →
+    get_or v 0 0 ∷ get_or v 1 0 ∷ get_or v 2 0 ∷ more ≡ 0 ∷ size ∷ 0xC0 ∷ more
+three v more size h = cc (h.0, h.1, h.2)
+
 module _ (v : List ℕ) (size : ℕ) (h : headed v size ≡ true) where
   headed_is : (get_or v 0 0 ≡ 0) × (get_or v 1 0 ≡ size) × (get_or v 2 0 ≡ 0xC0)
   unfolding headed
@@ -75,29 +81,49 @@ module _ (v : List ℕ) (size : ℕ) (h : headed v size ≡ true) where
 
 -- ---- a write line with its two or four data bytes
 
-module _ (digits table : List ℕ) (n : LineNumber) (late : 4 < n.0) (t : List ℕ) (next command d0 d1 crc : ℕ) where
-  abbrev v : List ℕ
-  v = values_of (digit_by digits) t
+module _ (table : List ℕ) (n : LineNumber) (late : 4 < n.0) where
+  -- the line of some values is taken with so many data bytes, and its CRC is the code of its address, its command and these
+  Coded : List ℕ → ℕ → Type 0
+  Coded w count =
+      (body_ok (line_of w).command count ≡ true)
+      × ((line_of w).crc ≡ run_with table (run_with table 0 (0xC0 ∷ (line_of w).command ∷ [])) (take count (line_of w).bytes))
 
-  pub two_taken : length t ≡ 14 → headed v 5 ≡ true → body_ok command 2 ≡ true → command ≡ get_or v 3 0 → d0 ≡ get_or v 4 0 → d1 ≡ get_or v 5 0 →
-      crc ≡ get_or v 6 0 → crc ≡ run_with table 0 (0xC0 ∷ command ∷ d0 ∷ d1 ∷ []) →
-      next_by (read_by digits table n t) next
-      ≡ Took (record { command = command; count = 2; d0 = d0; d1 = d1; d2 = 0; d3 = 0; crc = crc }) next
-  unfolding read_digits read_values bad_pairs length_right crc_right form_right form_ok line_of next_by values_from
-  two_taken size h body pc p0 p1 pr code =
-      let a = headed_is v 5 h in
-      let all : v ≡ 0 ∷ 5 ∷ 0xC0 ∷ command ∷ d0 ∷ d1 ∷ crc ∷ [] =
-      all_values v 0 7 (omega (arith, values_length (digit_by digits) t)) ∙ rw (a.0, a.1, a.2, pc, p0, p1, pr) in
-      rw (size, all) (rw (lt-leb n.0 4 late, body, eq-eqb _ _ code))
+  two_taken : (w : List ℕ) (a b c r : ℕ) → w ≡ 0 ∷ 5 ∷ 0xC0 ∷ a ∷ b ∷ c ∷ r ∷ [] → Coded w 2 → read_values (run_with table 0) n w ≡ Ok (line_of w)
+  unfolding read_values length_right crc_right form_right form_ok line_of run_with Coded
+  two_taken w a b c r e h =
+      let k = rw e at h in
+      rw e (rw (lt-leb n.0 4 late, k.0, eq-eqb _ _ k.1))
 
-  pub four_taken : (d2 d3 : ℕ) → length t ≡ 18 → headed v 7 ≡ true → body_ok command 4 ≡ true → command ≡ get_or v 3 0 → d0 ≡ get_or v 4 0 →
-      d1 ≡ get_or v 5 0 → d2 ≡ get_or v 6 0 → d3 ≡ get_or v 7 0 → crc ≡ get_or v 8 0 →
-      crc ≡ run_with table 0 (0xC0 ∷ command ∷ d0 ∷ d1 ∷ d2 ∷ d3 ∷ []) →
-      next_by (read_by digits table n t) next
-      ≡ Took (record { command = command; count = 4; d0 = d0; d1 = d1; d2 = d2; d3 = d3; crc = crc }) next
-  unfolding read_digits read_values bad_pairs length_right crc_right form_right form_ok line_of next_by values_from
-  four_taken d2 d3 size h body pc p0 p1 p2 p3 pr code =
-      let a = headed_is v 7 h in
-      let all : v ≡ 0 ∷ 7 ∷ 0xC0 ∷ command ∷ d0 ∷ d1 ∷ d2 ∷ d3 ∷ crc ∷ [] =
-      all_values v 0 9 (omega (arith, values_length (digit_by digits) t)) ∙ rw (a.0, a.1, a.2, pc, p0, p1, p2, p3, pr) in
-      rw (size, all) (rw (lt-leb n.0 4 late, body, eq-eqb _ _ code))
+  four_taken : (w : List ℕ) (a b c d f r : ℕ) → w ≡ 0 ∷ 7 ∷ 0xC0 ∷ a ∷ b ∷ c ∷ d ∷ f ∷ r ∷ [] → Coded w 4 →
+      read_values (run_with table 0) n w ≡ Ok (line_of w)
+  unfolding read_values length_right crc_right form_right form_ok line_of run_with Coded
+  four_taken w a b c d f r e h =
+      let k = rw e at h in
+      rw e (rw (lt-leb n.0 4 late, k.0, eq-eqb _ _ k.1))
+
+  module _ (digits t : List ℕ) where
+    abbrev v : List ℕ
+    v = values_of (digit_by digits) t
+
+    pub line_taken : (size : ℕ) → (size ≡ 14) ⊎ (size ≡ 18) → length t ≡ size → (l : Line) → l ≡ line_of v →
+        headed v (size / 2 - 2) ≡ true → body_ok l.command (size / 2 - 5) ≡ true → (head : ℕ) →
+        head ≡ run_with table 0 (0xC0 ∷ l.command ∷ []) → l.crc ≡ run_with table head (take (size / 2 - 5) l.bytes) →
+        read_by digits table n t ≡ Ok l
+    unfolding read_digits bad_pairs Coded values_from
+    line_taken size which long l is h body head start code =
+        let a = headed_is v (size / 2 - 2) h in
+        let first = rw is at start in
+        let coded : Coded v (size / 2 - 5) = (rw is at body, rw first at (rw is at code)) in
+        let many = values_length (digit_by digits) t in
+        elim which [
+          | inl e ↦
+              let b = rw e at a in
+              let all : v ≡ 0 ∷ 5 ∷ 0xC0 ∷ get_or v 3 0 ∷ get_or v 4 0 ∷ get_or v 5 0 ∷ get_or v 6 0 ∷ [] =
+              all_values v 0 7 (omega arith) ∙ three v (get_or v 3 0 ∷ get_or v 4 0 ∷ get_or v 5 0 ∷ get_or v 6 0 ∷ []) 5 b in
+              rw (is, long, e) (two_taken v _ _ _ _ all (rw e at coded))
+          | inr e ↦
+              let b = rw e at a in
+              let all : v ≡ 0 ∷ 7 ∷ 0xC0 ∷ get_or v 3 0 ∷ get_or v 4 0 ∷ get_or v 5 0 ∷ get_or v 6 0 ∷ get_or v 7 0 ∷ get_or v 8 0 ∷ [] =
+              all_values v 0 9 (omega arith) ∙ three v (get_or v 3 0 ∷ get_or v 4 0 ∷ get_or v 5 0 ∷ get_or v 6 0 ∷ get_or v 7 0 ∷ get_or v 8 0 ∷ []) 7 b in
+              rw (is, long, e) (four_taken v _ _ _ _ _ _ all (rw e at coded))
+        ]

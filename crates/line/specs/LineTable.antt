@@ -2,13 +2,12 @@
 -- and the bytes of the line, two digits for each, the rows of the table of lines and the PEC, without the reading's tests; a row says
 -- only what its number means, and `First` of promise says the order. No promise cites this page: proofs/LineExactly.antt shows that a
 -- line is refused so exactly where this is so. Assumes nothing.
-use Rattle.std.specs.Prelude.{◌≡◌, ◌⊎◌, List, [], ◌∷◌, ◌++◌, ℕ, ◌+◌, ◌*◌, ◌%◌, ◌<◌, length}
+use Rattle.std.specs.Prelude.{◌≡◌, ◌⊎◌, List, [], ◌∷◌, ◌++◌, ℕ, ◌+◌, ◌*◌, ◌%◌, ◌<◌, length, Ok, Err}
 use Rattle.promise.specs.First.{First}
 use Rattle.pec.specs.Pec.{pec}
 use Rattle.counts.specs.Counts.{line_number}
 use Rattle.line.specs.declared.Line.{Line}
 use Rattle.line.specs.declared.LineRefusal.{LineRefusal}
-use Rattle.line.specs.declared.LineReading.TheVariants.{Good, Refused}
 use Rattle.line.specs.Reading.{fault_number, read_line}
 use Rattle.line.specs.LineForm.{Digit, Spells, Row}
 
@@ -54,8 +53,8 @@ pub data LineTable (n : ℕ) (t : List ℕ) : ℕ → ℕ → Type 0 where
 -- the table gives none
 
 pub record LineExactly (n : ℕ) (t : List ℕ) : Type 0 where
-  pub refused : (r : LineRefusal) → read_line (line_number n) t ≡ Refused r → First (LineTable n t) (fault_number r.fault) r.place.0
+  pub refused : (r : LineRefusal) → read_line (line_number n) t ≡ Err r → First (LineTable n t) (fault_number r.fault) r.place.0
   pub only : (m p : ℕ) → First (LineTable n t) m p →
-      (r : LineRefusal) × (read_line (line_number n) t ≡ Refused r) × (fault_number r.fault ≡ m) × (r.place.0 ≡ p)
-  pub good : (l : Line) → read_line (line_number n) t ≡ Good l → (m p : ℕ) → LineTable n t m p → ⊥
-  pub none : ((m p : ℕ) → LineTable n t m p → ⊥) → (l : Line) × (read_line (line_number n) t ≡ Good l)
+      (r : LineRefusal) × (read_line (line_number n) t ≡ Err r) × (fault_number r.fault ≡ m) × (r.place.0 ≡ p)
+  pub good : (l : Line) → read_line (line_number n) t ≡ Ok l → (m p : ℕ) → LineTable n t m p → ⊥
+  pub none : ((m p : ℕ) → LineTable n t m p → ⊥) → (l : Line) × (read_line (line_number n) t ≡ Ok l)

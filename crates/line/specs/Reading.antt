@@ -1,6 +1,6 @@
 -- What reading a line gives (document 01, "Lines of the file" and "Numbers for a file"), by what a byte counts as a digit and
 -- by the code that the last byte is held to. Assumes nothing.
-use Rattle.std.specs.Prelude.{ℕ, ◌+◌, ◌-◌, ◌%◌, Bool, true, false, cond, List, [], ◌∷◌, length, get_or, drop, eqb, ltb, leb}
+use Rattle.std.specs.Prelude.{ℕ, ◌+◌, ◌-◌, ◌%◌, ◌<◌, Bool, true, false, cond, List, [], ◌∷◌, length, get_or, drop, eqb, ltb, leb, Option, Some, None, Result, Ok, Err}
 use Rattle.std.proofs.Math.Seq.{slice}
 use Rattle.pec.specs.Pec.{pec}
 use Rattle.counts.specs.declared.LineNumber.{LineNumber}
@@ -10,10 +10,15 @@ use Rattle.line.specs.Places.{fault_at, last_pair, form_place_of}
 use Rattle.line.specs.declared.Line.{Line}
 use Rattle.line.specs.declared.Fault.{Fault}
 use Rattle.line.specs.declared.Fault.TheVariants.{Char, Pairs, Length, Crc, Form}
-use Rattle.line.specs.declared.LineReading.{LineReading}
-use Rattle.line.specs.declared.LineReading.TheVariants.{Good, Refused}
-use Rattle.line.specs.declared.NextLine.{NextLine}
-use Rattle.line.specs.declared.NextLine.TheVariants.{End, Took, Stopped}
+use Rattle.line.specs.declared.LineRefusal.{LineRefusal}
+
+-- a line's reading: the good line, or its refusal
+abbrev pub LineReading : Type 0
+LineReading = Result Line LineRefusal
+
+-- reading at a place: a good line with the place behind it, none where nothing is left, or a refusal
+abbrev pub NextLine : Type 0
+NextLine = Result (Option (Line × ℕ)) LineRefusal
 
 -- the document's numbers
 abbrev pub fault_number : Fault → ℕ
@@ -39,12 +44,18 @@ line_of v =
     record {
       command = get_or v 3 0;
       count = length v - 5;
-      d0 = get_or (data_of v) 0 0;
-      d1 = get_or (data_of v) 1 0;
-      d2 = get_or (data_of v) 2 0;
-      d3 = get_or (data_of v) 3 0;
+      bytes = get_or (data_of v) 0 0 ∷ get_or (data_of v) 1 0 ∷ get_or (data_of v) 2 0 ∷ get_or (data_of v) 3 0 ∷ [];
       crc = last_of v;
     }
+
+-- one of the first four data bytes of a good line, zeros behind them
+abbrev pub byte : Line → ℕ → ℕ
+byte l i = get_or l.bytes i 0
+
+-- the parts of a line that go out are bytes, as every u8 is
+pub record IsBytes (l : Line) : Type 0 where
+  pub command : l.command < 256
+  pub bytes : (i : ℕ) → byte l i < 256
 
 -- a count of digits that no line has
 unfoldable pub bad_pairs : ℕ → Bool
@@ -92,26 +103,26 @@ unfoldable pub read_values : (List ℕ → ℕ) → LineNumber → List ℕ → 
 read_values code n v =
     cond (length_right v)
     (cond (crc_right code v)
-    (cond (form_right n v) (Good (line_of v)) (Refused (fault_at Form (form_place_of n v))))
-    (Refused (fault_at Crc (last_pair v))))
-    (Refused (fault_at Length 3))
+    (cond (form_right n v) (Ok (line_of v)) (Err (fault_at Form (form_place_of n v))))
+    (Err (fault_at Crc (last_pair v))))
+    (Err (fault_at Length 3))
 
 -- the last four, on a text of digits; the place of PAIRS is the digit count plus one
 unfoldable pub read_digits : (ℕ → ℕ) → (List ℕ → ℕ) → LineNumber → List ℕ → LineReading
-read_digits digit code n t = cond (bad_pairs (length t)) (Refused (fault_at Pairs (length t + 1))) (read_values code n (values_of digit t))
+read_digits digit code n t = cond (bad_pairs (length t)) (Err (fault_at Pairs (length t + 1))) (read_values code n (values_of digit t))
 
 -- a line's reading, by the line's number and its text; the place of CHAR is the first bad byte
 unfoldable pub read_line : LineNumber → List ℕ → LineReading
-read_line n t = cond (all_digits digit_val t) (read_digits digit_val pec n t) (Refused (fault_at Char (digit_run digit_val t + 1)))
+read_line n t = cond (all_digits digit_val t) (read_digits digit_val pec n t) (Err (fault_at Char (digit_run digit_val t + 1)))
 
 -- with the place behind the line
 unfoldable pub next_by : LineReading → ℕ → NextLine
-next_by (Good l) next = Took l next
-next_by (Refused r) next = Stopped r
+next_by (Ok l) next = Ok (Some (l, next))
+next_by (Err r) next = Err r
 
 -- the first of some lines, if there is one
 unfoldable pub next_of : LineNumber → ℕ → List (List ℕ) → NextLine
-next_of n next [] = End
+next_of n next [] = Ok None
 next_of n next (l ∷ ls) = next_by (read_line n l) next
 
 -- the reading of the line that starts at a place

@@ -5,93 +5,88 @@ ghost use Rattle.line.specs.Digits.{digit_by, values_of};
 ghost use Rattle.line.specs.Reading.{covered_of, data_of, last_of, line_of};
 
 use crate::Line;
-
-// What a byte counts as.
-#[tactic(auto, unfolding(crate::specs::Digits::digit_by))]
-pub(crate) fn digit(digits: &[u8; 256], b: u8) -> u8
-    ensures { result ≡ digit_by digits.now b }
-{
-    digits[b as usize]
-}
-
-// The byte of the i-th pair of digits, and 0 past the last pair.
-#[tactic(auto, using(crate::proofs::LineParts::values_at_lem, crate::proofs::LineParts::values_past), unfolding(crate::specs::Digits::pair_val))]
-pub(crate) fn value_at(digits: &[u8; 256], t: &[u8], i: usize) -> u8
-    ensures { result ≡ get_or (values_of (digit_by digits.now) t.now) i 0 }
-{
-    if i < t.len() / 2 {
-        let high = wide(digit(digits, t[2 * i]));
-        let low = wide(digit(digits, t[2 * i + 1]));
-        ((16 * high + low) % 256) as u8
-    } else {
-        0
-    }
-}
-
-// So that sixteen times a digit does not overflow.
-pub(crate) fn wide(x: u8) -> u16
-    ensures { result ≡ x }
-{
-    x as u16
-}
-
-// The code of address, command and data.
-#[tactic(auto, using(crate::proofs::LineParts::values_length, crate::proofs::LineParts::code_on, crate::proofs::LineParts::code_end))]
-pub(crate) fn crc_of(digits: &[u8; 256], table: &[u8; 256], t: &[u8]) -> u8
-    ensures { result ≡ run_with table.now 0 (covered_of (values_of (digit_by digits.now) t.now)) }
-{
-    let m = t.len() / 2;
-    let mut crc: u8 = 0;
-    let mut i: usize = 2;
-    while i + 1 < m {
-        crc = pec::step_with(table, crc, value_at(digits, t, i));
-        i += 1;
-    }
-    crc
-}
-
-// Data stands between the command and the CRC.
-#[tactic(auto, using(crate::proofs::LineParts::values_length, crate::proofs::LineParts::slice_get, crate::proofs::LineParts::slice_past))]
-pub(crate) fn data_at(digits: &[u8; 256], t: &[u8], i: usize) -> u8
-    requires { i < 4 }
-    ensures { result ≡ get_or (data_of (values_of (digit_by digits.now) t.now)) i 0 }
-{
-    if i + 5 < t.len() / 2 {
-        value_at(digits, t, 4 + i)
-    } else {
-        0
-    }
-}
+use crate::reader::Reader;
 
 // What is left of the values without tag, length, address, command and CRC.
 pub(crate) fn data_count(t: &[u8]) -> usize
     ensures { result ≡ length t.now / 2 - 5 }
 {
-    let m = t.len() / 2;
-    if m < 5 { 0 } else { m - 5 }
+    (t.len() / 2).saturating_sub(5)
 }
 
-// The line's own CRC.
-#[tactic(auto, using(crate::proofs::LineParts::values_length, crate::proofs::LineParts::values_past))]
-pub(crate) fn last_value(digits: &[u8; 256], t: &[u8]) -> u8
-    ensures { result ≡ last_of (values_of (digit_by digits.now) t.now) }
-{
-    let m = t.len() / 2;
-    if m < 1 { 0 } else { value_at(digits, t, m - 1) }
-}
+impl Reader<'_> {
+    // What a byte counts as.
+    #[tactic(auto, unfolding(crate::specs::Digits::digit_by))]
+    pub(crate) fn digit(self, b: u8) -> u8
+        ensures { result ≡ digit_by self.entry.digits.now b }
+    {
+        self.digits[b as usize]
+    }
 
-// What the rest of the house sees of a good line.
-#[tactic(auto, using(crate::proofs::LineParts::values_length), unfolding(crate::specs::Reading::line_of))]
-pub(crate) fn line_of(digits: &[u8; 256], t: &[u8]) -> Line
-    ensures { result ≡ line_of (values_of (digit_by digits.now) t.now) }
-{
-    Line {
-        command: value_at(digits, t, 3),
-        count: data_count(t),
-        d0: data_at(digits, t, 0),
-        d1: data_at(digits, t, 1),
-        d2: data_at(digits, t, 2),
-        d3: data_at(digits, t, 3),
-        crc: last_value(digits, t),
+    // The byte of the i-th pair of digits, and 0 past the last pair.
+    #[tactic(auto, using(crate::proofs::LineParts::values_at_lem, crate::proofs::LineParts::values_past), unfolding(crate::specs::Digits::pair_val))]
+    pub(crate) fn value_at(self, t: &[u8], i: usize) -> u8
+        ensures { result ≡ get_or (values_of (digit_by self.entry.digits.now) t.now) i 0 }
+    {
+        if i < t.len() / 2 {
+            let high = u16::from(self.digit(t[2 * i]));
+            let low = u16::from(self.digit(t[2 * i + 1]));
+            ((16 * high + low) % 256) as u8
+        } else {
+            0
+        }
+    }
+
+    // The code of address, command and data. By a range: i is a pair of digits, and no slice holds the bytes that they spell.
+    #[tactic(auto, using(crate::proofs::LineParts::values_length, crate::proofs::LineParts::code_on, crate::proofs::LineParts::code_end))]
+    pub(crate) fn crc_of(self, t: &[u8]) -> u8
+        ensures { result ≡ run_with self.entry.table.now 0 (covered_of (values_of (digit_by self.entry.digits.now) t.now)) }
+    {
+        let mut crc: u8 = 0;
+        for i in 2..(t.len() / 2).saturating_sub(1) {
+            crc = pec::step_with(self.table, crc, self.value_at(t, i));
+        }
+        crc
+    }
+
+    // Data stands between the command and the CRC.
+    fn data_at(self, t: &[u8], i: usize) -> u8
+        requires { i < 4 }
+        ensures { result ≡ get_or (data_of (values_of (digit_by self.entry.digits.now) t.now)) i 0 }
+    {
+        if i + 5 < t.len() / 2 {
+            self.value_at(t, 4 + i)
+        } else {
+            0
+        }
+    }
+
+    // The line's own CRC.
+    #[tactic(auto, using(crate::proofs::LineParts::values_length, crate::proofs::LineParts::values_past))]
+    pub(crate) fn last_value(self, t: &[u8]) -> u8
+        ensures { result ≡ last_of (values_of (digit_by self.entry.digits.now) t.now) }
+    {
+        match t.len() / 2 {
+            0 => 0,
+            m => self.value_at(t, m - 1),
+        }
+    }
+
+    // What the rest of the house sees of a good line.
+    #[tactic(auto, using(crate::proofs::LineParts::values_length), unfolding(crate::specs::Reading::line_of))]
+    pub(crate) fn line_of(self, t: &[u8]) -> Line
+        ensures { result ≡ line_of (values_of (digit_by self.entry.digits.now) t.now) }
+    {
+        Line {
+            command: self.value_at(t, 3),
+            count: data_count(t),
+            bytes: [
+                self.data_at(t, 0),
+                self.data_at(t, 1),
+                self.data_at(t, 2),
+                self.data_at(t, 3),
+            ],
+            crc: self.last_value(t),
+        }
     }
 }

@@ -5,9 +5,9 @@ use Rattle.line.specs.declared.Line.{Line}
 use Prim.Native.Nat.{ℕ}
 use Rattle.summary.specs.declared.Whole.{Whole}
 use Rattle.summary.specs.declared.Refusal.{Refusal}
-use Rattle.summary.specs.Answers.{plain, whole_number, refusal_told, answer_told, no_summary}
+use Rattle.summary.specs.declared.Checked.{Checked}
+use Rattle.summary.specs.Answers.{FileAnswer, plain, whole_number, refusal_told, answer_told, no_summary}
 use Rattle.summary.specs.Burn.{is_burn}
-use Rattle.summary.specs.declared.FileAnswer.{FileAnswer}
 use Rattle.promise.specs.One.{One}
 use Rattle.promise.proofs.Equal.{one_answer}
 
@@ -20,8 +20,11 @@ one-Whole-number self = one_answer _
 pub one-Refusal-told : (self : Refusal) → One (λ r. r ≡ refusal_told self)
 one-Refusal-told self = one_answer _
 
-pub one-FileAnswer-told : (self : FileAnswer) → One (λ r. r ≡ answer_told self)
-one-FileAnswer-told self = one_answer _
+pub one-told_of : (answer : FileAnswer) → One (λ r. r ≡ answer_told answer)
+one-told_of answer = one_answer _
+
+pub one-Checked-told : (self : Checked) → One (λ r. r ≡ answer_told self.answer)
+one-Checked-told self = one_answer _
 
 pub one-Summary-none : One (λ r. r ≡ no_summary)
 one-Summary-none = one_answer _

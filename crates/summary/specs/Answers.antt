@@ -1,6 +1,6 @@
 -- What is told of each answer to a file, in the document's numbers (document 01, "Numbers for a file"), and the summary of a refused one.
 -- Assumes nothing.
-use Rattle.std.specs.Prelude.{ℕ, replicate}
+use Rattle.std.specs.Prelude.{ℕ, replicate, Result, Ok, Err}
 use Rattle.counts.specs.declared.LineNumber.{LineNumber}
 use Rattle.counts.specs.declared.Place.{Place}
 use Rattle.counts.specs.declared.ConfigNumber.{ConfigNumber}
@@ -11,10 +11,12 @@ use Rattle.summary.specs.declared.Whole.{Whole}
 use Rattle.summary.specs.declared.Whole.TheVariants.{Size, Count, Revision, Device, Burn, Spot, Same}
 use Rattle.summary.specs.declared.Refusal.{Refusal}
 use Rattle.summary.specs.declared.Refusal.TheVariants as refusal
-use Rattle.summary.specs.declared.FileAnswer.{FileAnswer}
-use Rattle.summary.specs.declared.FileAnswer.TheVariants.{Accepted, Refused}
 use Rattle.summary.specs.declared.Told.{Told}
 use Rattle.summary.specs.declared.Summary.{Summary}
+
+-- accepted, or refused
+abbrev pub FileAnswer : Type 0
+FileAnswer = Result (Unit {0}) Refusal
 
 abbrev pub told : ℕ → LineNumber → Place → ConfigNumber → Told
 told number line place config = record { number = number; line = line; place = place; config = config }
@@ -40,8 +42,8 @@ refusal_told (refusal.Whole w) = plain (whole_number w)
 
 -- 0 if accepted
 abbrev pub answer_told : FileAnswer → Told
-answer_told Accepted = plain 0
-answer_told (Refused r) = refusal_told r
+answer_told (Ok tt) = plain 0
+answer_told (Err r) = refusal_told r
 
 -- a refused file says nothing
 unfoldable pub no_summary : Summary

@@ -5,6 +5,7 @@
 ghost use Rattle.std.specs.Prelude.{◌≡◌};
 ghost use Rattle.summary.specs.Answers.{plain, whole_number, refusal_told, answer_told, no_summary};
 ghost use Rattle.summary.specs.Burn.{is_burn};
+ghost use Rattle.summary.specs.declared.Refusal.TheVariants as refusal;
 
 use bus::Bus;
 use counts::{ConfigId, ConfigNumber, Kind, LineNumber, Place};
@@ -13,29 +14,28 @@ use line::{Line, LineRefusal};
 // The faults of the whole file, numbers 1, 7 to 11 and 13 of document 01, "Numbers for a file". 12 is unused (request R-9).
 #[derive(Clone, Copy)]
 pub enum Whole {
-    Size,
-    Count,
-    Revision,
-    Device,
-    Burn,
-    Spot,
-    Same,
+    Size = 1,
+    Count = 7,
+    Revision = 8,
+    Device = 9,
+    Burn = 10,
+    Spot = 11,
+    Same = 13,
 }
 
-// The first faulty line with its refusal, numbers 2 to 6, or the whole file's. Handed on whole.
+// The first faulty line with its refusal, numbers 2 to 6, or the whole file's. Handed on whole. Both are refusals, so that no Result is
+// plainer.
 #[derive(Clone, Copy)]
 pub enum Refusal {
     Line(LineNumber, LineRefusal),
     Whole(Whole),
 }
 
-#[derive(Clone, Copy)]
-pub enum FileAnswer {
-    Accepted,
-    Refused(Refusal),
-}
+// A file is accepted, or refused.
+pub type FileAnswer = Result<(), Refusal>;
 
-// What is told of an answer: document 01's number, the line, the place in it, and N.
+// What is told of an answer: document 01's number, the line, the place in it, and N. The number is also 0, that of an accepted file and
+// of DONE, and goes on to C as it is.
 #[derive(Clone, Copy)]
 pub struct Told {
     pub number: u8,
@@ -44,7 +44,8 @@ pub struct Told {
     pub config: ConfigNumber,
 }
 
-// What an accepted file says. `line5` is the place of line 5 in the text.
+// What an accepted file says, as document 02 lists it (R-3): the identifiers and the CRCs stand apart there, and in `summary_of`. `line5`
+// is the place of line 5 in the text.
 #[derive(Clone, Copy)]
 pub struct Summary {
     pub kind: Kind,
@@ -56,7 +57,7 @@ pub struct Summary {
     pub crcs: [u32; 8],
 }
 
-// The summary holds arrays, so it stands beside the answer: of zeros where the file is refused.
+// The summary stands beside the answer, since a refused check hands one back too, of zeros (document 02, R-3).
 #[derive(Clone, Copy)]
 pub struct Checked {
     pub answer: FileAnswer,
@@ -69,7 +70,7 @@ impl Told {
         ensures { result ≡ plain number }
     {
         Told {
-            number: number,
+            number,
             line: LineNumber(0),
             place: Place(0),
             config: ConfigNumber(0),
@@ -82,15 +83,16 @@ impl Whole {
     pub fn number(self) -> u8
         ensures { result ≡ whole_number self }
     {
-        match self {
-            Whole::Size => 1,
-            Whole::Count => 7,
-            Whole::Revision => 8,
-            Whole::Device => 9,
-            Whole::Burn => 10,
-            Whole::Spot => 11,
-            Whole::Same => 13,
-        }
+        self as u8
+    }
+}
+
+// What is said of the whole file is no line's.
+impl From<Whole> for Refusal {
+    ghost from_gives = { λ w r. r ≡ refusal.Whole w };
+
+    fn from(whole: Whole) -> Refusal {
+        Refusal::Whole(whole)
     }
 }
 
@@ -100,28 +102,32 @@ impl Refusal {
         ensures { result ≡ refusal_told self }
     {
         match self {
-            Refusal::Line(n, refusal) => {
-                let fault = refusal.fault;
-                let place = refusal.place;
-                let mut told = Told::plain(fault.number());
-                told.line = n;
-                told.place = place;
-                told
-            }
-            Refusal::Whole(whole) => Told::plain(whole.number()),
+            Refusal::Line(line, refusal) => Told {
+                line,
+                place: refusal.place,
+                ..Told::plain(refusal.fault.number())
+            },
+            Refusal::Whole(fault) => Told::plain(fault.number()),
         }
     }
 }
 
-impl FileAnswer {
-    // The refusal's, and number 0 for an accepted file.
+// The refusal's, and number 0 for an accepted file.
+pub fn told_of(answer: FileAnswer) -> Told
+    ensures { result ≡ answer_told answer }
+{
+    match answer {
+        Ok(()) => Told::plain(0),
+        Err(refusal) => refusal.told(),
+    }
+}
+
+impl Checked {
+    // What is told of its answer.
     pub fn told(self) -> Told
-        ensures { result ≡ answer_told self }
+        ensures { result ≡ answer_told self.answer }
     {
-        match self {
-            FileAnswer::Accepted => Told::plain(0),
-            FileAnswer::Refused(refusal) => refusal.told(),
-        }
+        told_of(self.answer)
     }
 }
 
@@ -144,13 +150,9 @@ impl Summary {
 }
 
 // Whether a line is the burn.
-#[tactic(auto, using(counts::proofs::Tests::tests), unfolding(crate::specs::Burn::is_burn))]
+#[tactic(auto, unfolding(crate::specs::Burn::is_burn))]
 pub fn is_burn(l: Line) -> bool
     ensures { result ≡ is_burn l }
 {
-    if l.command == Bus::ACT {
-        if l.d0 == 8 { l.d1 == 0 } else { false }
-    } else {
-        false
-    }
+    l.command == Bus::ACT && l.bytes[0] == 8 && l.bytes[1] == 0
 }
