@@ -1,12 +1,12 @@
 -- What a begin hands back, refused or accepted, with a summary or by the one operation. Assumes nothing.
+use Rattle.summary.specs.Answers.{FileAnswer}
+use Rattle.std.specs.Prelude.{Ok, Err}
 use Prim.Native.Nat.{ℕ, ◌+◌}
 use mathlib.Core.Path.{◌≡◌, refl, sym, ap}
 use mathlib.Core.Bool.{true, false}
 use mathlib.Core.List.{List}
 use Rattle.promise.proofs.Basics.{split}
 use Rattle.summary.specs.declared.Summary.{Summary}
-use Rattle.summary.specs.declared.FileAnswer.{FileAnswer}
-use Rattle.summary.specs.declared.FileAnswer.TheVariants.{Accepted, Refused}
 use Rattle.image.specs.Check.{check_of}
 use Rattle.bus.specs.declared.Request.{Request}
 use Rattle.bus.specs.Bus.{eight, no_request}
@@ -62,8 +62,8 @@ module _ (S : Settings) where
 
   answered_begun : (f : Summary) (a : FileAnswer) → Begun (answered_of S f a)
   unfolding answered_of
-  answered_begun f Accepted = begins_with f
-  answered_begun f (Refused r) = refused_begun (File r)
+  answered_begun f (Ok tt) = begins_with f
+  answered_begun f (Err r) = refused_begun (File r)
 
 module _ (S : Settings) (text : List ℕ) where
   -- by the file's answer, where the settings are allowed

@@ -4,9 +4,9 @@
 use mathlib.Core.Path.{◌≡◌}
 use mathlib.Core.List.{List, [], ◌∷◌}
 use Prim.Native.Nat.{ℕ}
+use Rattle.std.specs.Prelude.{Ok}
 use Rattle.bus.specs.Bus.{framed, write_of}
 use Rattle.guide.specs.Requests.{point_to, read_data, read_block}
-use Rattle.bus.specs.declared.ReplyForm.TheVariants.{Good}
 use Rattle.bus.specs.ReplyForm.{done_form, form_of}
 use Rattle.bus.specs.InForm.{InForm, Says, Means}
 use Rattle.bus.proofs.FormMeans.{good_is, form_means}
@@ -24,8 +24,8 @@ elsewhere address read =
 again : (address command other : ℕ) (bs cs : List ℕ) {kind : ℕ} {rs : List ℕ} → InForm (write_of address command bs) kind rs 0 → InForm (write_of address other cs) kind rs 0
 unfolding write_of Means Says form_of done_form framed
 again address command other bs cs {kind} {rs} i =
-    let e : form_of (write_of address command bs) kind rs ≡ Good 0 = good_is i in
-    (form_means (made_write address other cs) kind rs (Good 0)).0 e
+    let e : form_of (write_of address command bs) kind rs ≡ Ok 0 = good_is i in
+    (form_means (made_write address other cs) kind rs (Ok 0)).0 e
 
 pub blind : (address : ℕ) (read : Words) (rs left : List Reply) → Heard (heard2 address read) rs left → Heard (elsewhere address read) rs left
 blind address read _ left (more _ _ r1 _ _ e1 (more _ _ r2 _ _ e2 (more _ _ r3 _ _ e3 (more _ _ r4 _ _ e4 (more _ _ r5 _ _ e5 (more _ _ r6 _ _ e6 (none rs))))))) =

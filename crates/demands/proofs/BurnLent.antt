@@ -1,4 +1,5 @@
 -- Whatever is lent: every request is for the device in use, and the burn goes out as line n alone, so once at most. Assumes nothing.
+use Rattle.std.specs.Prelude.{Some, Ok, Err}
 use Prim.Native.Nat.{ℕ, ◌+◌, ◌≤◌}
 use mathlib.Core.Path.{◌≡◌, refl, sym, ap, ◌∙◌}
 use mathlib.Core.Logic.{⊎_elim, ◌↔◌}
@@ -9,11 +10,9 @@ use native.Mathlib.Omega.{arith}
 use Rattle.promise.proofs.Basics.{split}
 use Rattle.counts.specs.declared.LineNumber.{LineNumber}
 use Rattle.line.specs.declared.Line.{Line}
-use Rattle.line.specs.declared.LineReading.{LineReading}
-use Rattle.line.specs.declared.LineReading.TheVariants.{Good, Refused}
-use Rattle.line.specs.declared.NextLine.TheVariants.{Took, Stopped}
 use Rattle.line.specs.Digits.{digit_val, values_of}
-use Rattle.line.specs.Reading.{line_of, read_line, next_by, next_of, next_line}
+use Rattle.line.proofs.ReadBytes.{took_read}
+use Rattle.line.specs.Reading.{line_of, read_line, next_by, next_of, next_line, LineReading}
 use Rattle.line.proofs.GoodExactly.{good_form}
 use Rattle.summary.specs.declared.Summary.{Summary}
 use Rattle.summary.specs.Burn.{is_burn}
@@ -79,19 +78,7 @@ own_goes S f high q o p m =
 
 -- ---- a line
 
--- what was taken is a line that reads
-took_read : (n : LineNumber) (k : ℕ) (ts : List (List ℕ)) (l : Line) (next : ℕ) → next_of n k ts ≡ Took l next → (t : List ℕ) × (read_line n t ≡ Good l)
-unfolding next_of next_by
-took_read n k [] l next e = let z : ◌≡◌ {A = ℕ} 0 1 = cc in absurd (let y : ⊥ = omega arith in y)
-took_read n k (t ∷ ts) l next e = (t, by (read_line n t) refl)
-  where
-    by : (x : LineReading) → read_line n t ≡ x → read_line n t ≡ Good l
-    by (Good m) h = let same : Took m k ≡ Took l next = sym (ap (λ (x : LineReading). next_by x k) h) ∙ e in h ∙ cc
-    by (Refused r) h =
-        let other : Stopped r ≡ Took l next = sym (ap (λ (x : LineReading). next_by x k) h) ∙ e in
-        let z : ◌≡◌ {A = ℕ} 0 1 = cc in absurd (let y : ⊥ = omega arith in y)
-
-pub line_burn : (address : ℕ) (n : LineNumber) (place : ℕ) (text : List ℕ) (l : Line) (next : ℕ) → 5 ≤ n.0 → next_line n place text ≡ Took l next
+pub line_burn : (address : ℕ) (n : LineNumber) (place : ℕ) (text : List ℕ) (l : Line) (next : ℕ) → 5 ≤ n.0 → next_line n place text ≡ Ok (Some (l, next))
     → same_bytes (line_request address l).bytes (burn_to address).bytes ≡ is_burn l
 line_burn address n place text l next h e =
     let x = took_read n _ _ l next e in
@@ -197,7 +184,7 @@ module _ (s : Session) (out : List Request) (ok : sound_of s ≡ true) (x : Burn
         by (first kept k f) = omega arith
         by (later h) = omega (arith, (held s ok).low)
 
-    line_on : (text : List ℕ) (l : Line) (next : ℕ) → next_line n s.position.place text ≡ Took l next → (is_burn l ≡ true) ↔ (n.0 ≡ s.file.lines)
+    line_on : (text : List ℕ) (l : Line) (next : ℕ) → next_line n s.position.place text ≡ Ok (Some (l, next)) → (is_burn l ≡ true) ↔ (n.0 ≡ s.file.lines)
         → (b : Bool) → (is_burn l ≡ true → b ≡ true) → (is_burn l ≡ false → b ≡ s.burned)
         → Burns (holding (with_burned (with_position s (at_line s.position n next)) b) LineOut (line_request a l)) (out ++ (line_request a l ∷ []))
     unfolding with_sent with_stage with_position with_burned at_line QuietAt Quiet

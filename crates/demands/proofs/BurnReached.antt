@@ -7,14 +7,14 @@ use native.Mathlib.Omega.{arith}
 use lib.Dec.{eqb}
 use lib.ListN.{length, get_or}
 use borrow.Author.Tests.{eq-eqb, ne_eqb}
+use Rattle.std.specs.Prelude.{Result, Ok, Err}
 use Rattle.line.specs.Digits.{digit_val, values_of}
 use Rattle.line.specs.Reading.{line_of}
 use Rattle.line.specs.LineForm.{LineForm, Spells}
 use Rattle.line.proofs.Spelling.{spells_values}
 use Rattle.image.specs.Meets.{Spelled, none, line}
 use Rattle.bus.specs.declared.Request.{Request}
-use Rattle.bus.specs.declared.ReplyForm.{ReplyForm}
-use Rattle.bus.specs.declared.ReplyForm.TheVariants.{Unanswered, Misshapen, Miscoded, Good}
+use Rattle.bus.specs.declared.Misreply.{Misreply}
 use Rattle.bus.specs.ReplyForm.{form_of}
 use Rattle.guide.specs.Plan.{Reply, file_line, Asked, Plan, requests, bare}
 use Rattle.guide.specs.Guide.{hear, lines, lines_as}
@@ -74,7 +74,7 @@ module _ {address : ℕ} {W : Wire} (right : RightAt address W) (n : ℕ) (rest 
     abbrev all : List Reply → List Asked
     all rs = out i (t ∷ t2 ∷ ts) rs
 
-    one_more : (r : Reply) (rs : List Reply) (w : ℕ) → form_of (line_request address (line_of (values_of digit_val t))) r.kind r.bytes ≡ Good w
+    one_more : (r : Reply) (rs : List Reply) (w : ℕ) → form_of (line_request address (line_of (values_of digit_val t))) r.kind r.bytes ≡ Ok w
         → Reach (i + 1) (t2 ∷ ts) (v2 ∷ vs) rs → Reach i (t ∷ t2 ∷ ts) (v ∷ v2 ∷ vs) (r ∷ rs)
     unfolding lines_as lines requests marked before_burn is_burn_mark hear
     one_more r rs w e x =
@@ -96,12 +96,10 @@ module _ {address : ℕ} {W : Wire} (right : RightAt address W) (n : ℕ) (rest 
     on_line [] h go = absurd (let y : ⊥ = omega (arith, rw other at h) in y)
     on_line (r ∷ rs) h go = by_form (form_of (line_request address (line_of (values_of digit_val t))) r.kind r.bytes) refl
       where
-        by_form : (x : ReplyForm) → form_of (line_request address (line_of (values_of digit_val t))) r.kind r.bytes ≡ x
+        by_form : (x : Result ℕ Misreply) → form_of (line_request address (line_of (values_of digit_val t))) r.kind r.bytes ≡ x
             → Reach i (t ∷ t2 ∷ ts) (v ∷ v2 ∷ vs) (r ∷ rs)
-        by_form Unanswered e = absurd (let y : ⊥ = omega (arith, rw (other, e) at h) in y)
-        by_form Misshapen e = absurd (let y : ⊥ = omega (arith, rw (other, e) at h) in y)
-        by_form Miscoded e = absurd (let y : ⊥ = omega (arith, rw (other, e) at h) in y)
-        by_form (Good w) e = one_more r rs w e (go rs (rw (other, e) at h))
+        by_form (Err m) e = absurd (let y : ⊥ = omega (arith, rw (other, e) at h) in y)
+        by_form (Ok w) e = one_more r rs w e (go rs (rw (other, e) at h))
 
   -- each line from number i on has its form
   abbrev Formed : ℕ → List (List ℕ) → Type 0

@@ -8,8 +8,8 @@ use mathlib.Core.List.{List, [], ◌∷◌, ◌++◌, Memᴰ}
 use Prim.Native.Nat.{ℕ, suc, ◌+◌, ◌≤◌}
 use native.Mathlib.Omega.{arith}
 use borrow.Author.Tests.{eq-eqb}
+use Rattle.std.specs.Prelude.{Ok}
 use Rattle.bus.specs.declared.Request.{Request}
-use Rattle.bus.specs.declared.ReplyForm.TheVariants.{Good}
 use Rattle.bus.specs.Bus.{eight, framed, write_of, read_of}
 use Rattle.bus.specs.InForm.{Made, write, register, block, Says, Means}
 use Rattle.bus.proofs.FormMeans.{form_means}
@@ -92,7 +92,7 @@ pub said_in_form : (qs : List Asked) (rs : List Reply) → ((q : Asked) → Mem�
 unfolding bare Says Means
 said_in_form _ _ made (said.none rs) = none rs
 said_in_form _ _ made (said.more q qs r rs w e f) =
-    more q.request (bare qs) r rs w ((form_means (made q (Memᴰ.head refl)) r.kind r.bytes (Good w)).0 e)
+    more q.request (bare qs) r rs w ((form_means (made q (Memᴰ.head refl)) r.kind r.bytes (Ok w)).0 e)
     (said_in_form qs rs (λ p m. made p (Memᴰ.tail m)) f)
 
 -- every request of the guide is a write or a read

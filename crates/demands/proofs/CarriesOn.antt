@@ -3,9 +3,9 @@ use Prim.Native.Nat.{ℕ, ◌+◌}
 use mathlib.Core.Path.{◌≡◌, refl, sym, ap}
 use mathlib.Core.Bool.{Bool, true, false, cond}
 use mathlib.Core.List.{List}
+use Rattle.std.specs.Prelude.{Result, Ok, Err}
 use Rattle.bus.specs.declared.Request.{Request}
-use Rattle.bus.specs.declared.ReplyForm.{ReplyForm}
-use Rattle.bus.specs.declared.ReplyForm.TheVariants.{Unanswered, Misshapen, Miscoded, Good}
+use Rattle.bus.specs.declared.Misreply.{Misreply}
 use Rattle.bus.specs.ReplyForm.{form_of}
 use Rattle.guide.specs.declared.Verdict.{Verdict}
 use Rattle.session.specs.declared.Session.{Session}
@@ -46,12 +46,10 @@ module _ (s : Session) where
   bad_carried = record { counts = λ e. next_bad (sym e); rests = λ f. (refl, refl); burned = λ e. e; settings = refl; file = refl }
 
 module _ (text : List ℕ) (s : Session) (kind : ℕ) (bs : List ℕ) where
-  replied_carried : sound_of s ≡ true → (g : Awaited) (f : ReplyForm) → Carried s (replied_of text s g f)
+  replied_carried : sound_of s ≡ true → (g : Awaited) (f : Result ℕ Misreply) → Carried s (replied_of text s g f)
   unfolding replied_of
-  replied_carried ok g Unanswered = end_carried s g _
-  replied_carried ok g Misshapen = end_carried s g _
-  replied_carried ok g Miscoded = end_carried s g _
-  replied_carried ok g (Good word) =
+  replied_carried ok g (Err m) = end_carried s g _
+  replied_carried ok g (Ok word) =
       step_every text s (held_rule s ok) word (λ h. Carried s) (put_carried s) (end_carried s) (λ h n d u. bad_carried s) g
 
   open_carried : (g : Awaited) (b : Bool) → sound_of s ≡ b → Carried s (cond b (replied_of text s g (form_of s.hand kind bs)) (bad_of s))

@@ -1,12 +1,11 @@
 -- Document 01's one operation is a check and a beginning with its summary. Assumes nothing.
+use Rattle.std.specs.Prelude.{Ok, Err}
 use Prim.Native.Nat.{ℕ, ◌≤◌}
 use mathlib.Core.Path.{◌≡◌, refl, sym, ◌∙◌}
 use mathlib.Core.List.{List}
 use native.Mathlib.Omega.{arith}
 use Rattle.promise.proofs.Basics.{split}
-use Rattle.summary.specs.declared.FileAnswer.{FileAnswer}
-use Rattle.summary.specs.declared.FileAnswer.TheVariants.{Accepted, Refused}
-use Rattle.summary.specs.Answers.{answer_told, no_summary}
+use Rattle.summary.specs.Answers.{FileAnswer, answer_told, no_summary}
 use Rattle.image.specs.Check.{check_of}
 use Rattle.image.proofs.AcceptedExactly.{zero_accepts}
 use Rattle.session.specs.declared.Settings.{Settings}
@@ -25,13 +24,13 @@ module _ (S : Settings) (text : List ℕ) where
   unfolding answered_of
   accepted e =
       split (allowed_of S)
-      (λ a. sym (begin_answered S text (check_of text) Accepted refl a (zero_accepts (check_of text).answer e)))
+      (λ a. sym (begin_answered S text (check_of text) (Ok tt) refl a (zero_accepts (check_of text).answer e)))
       (λ a. sym (begin_not S text a) ∙ begin_out S (check_of text).summary a)
 
   zeros : (a : FileAnswer) → (check_of text).answer ≡ a → 1 ≤ (answer_told a).number → (check_of text).summary ≡ nothing
   unfolding no_summary
-  zeros Accepted e h = absurd (let y : ⊥ = omega (arith, h) in y)
-  zeros (Refused r) e h = refused_summary text r e
+  zeros (Ok tt) e h = absurd (let y : ⊥ = omega (arith, h) in y)
+  zeros (Err r) e h = refused_summary text r e
 
   pub composed : Composed S text
   composed =

@@ -1,6 +1,7 @@
 -- Every reply in form ends in one of three exits: a request is put out, which one is said step by step, a verdict, or the refusal of the
 -- state where a write line is due and what stands at the held place may not go out. The rule that is held is known, since 15 comes first.
 -- Assumes nothing.
+use Rattle.std.specs.Prelude.{Some, None, Ok, Err}
 use Prim.Native.Nat.{ℕ, ◌+◌, ◌≤◌, ◌<◌}
 use mathlib.Core.Path.{◌≡◌, refl, sym, ◌∙◌}
 use mathlib.Core.Logic.{◌↔◌}
@@ -9,22 +10,20 @@ use mathlib.Core.List.{List, [], ◌∷◌}
 use native.Mathlib.Omega.{arith}
 use lib.Dec.{eqb, ltb}
 use borrow.Author.Tests.{ltb-true, ltb-false, eqb-true, eqb-false}
+use Rattle.std.specs.Prelude.{Result, Ok, Err}
 use Rattle.counts.specs.declared.LineNumber.{LineNumber}
 use Rattle.counts.specs.declared.ConfigNumber.{ConfigNumber}
 use Rattle.counts.specs.Counts.{line_number, config_number}
 use Rattle.line.specs.declared.Line.{Line}
-use Rattle.line.specs.declared.NextLine as line
-use Rattle.line.specs.declared.NextLine.TheVariants.{End, Took, Stopped}
-use Rattle.line.specs.Reading.{next_line}
+use Rattle.line.specs.Reading.{next_line, NextLine}
 use Rattle.summary.specs.Burn.{is_burn}
 use Rattle.bus.specs.Bus.{write_of, word_bytes}
+use Rattle.guide.specs.declared.Reason.{Reason}
 use Rattle.guide.specs.Requests.{point_to, read_data, read_block, line_request}
 use Rattle.bus.specs.declared.Request.{Request}
 use Rattle.guide.specs.declared.Verdict.{Verdict}
 use Rattle.guide.specs.declared.Reason.TheVariants.{Program, Banks}
 use Rattle.guide.specs.declared.Verdict.TheVariants.{Done, Mismatch, Halted}
-use Rattle.guide.specs.declared.Fit.{Fit}
-use Rattle.guide.specs.declared.Fit.TheVariants.{Matched, Fails}
 use Rattle.guide.specs.declared.Polled.{Polled}
 use Rattle.guide.specs.declared.Polled.TheVariants.{Busy, Passed, Failed}
 use Rattle.guide.specs.Judged.{cleared, polled_of, banks_right}
@@ -82,7 +81,7 @@ pub data Step (text : List ℕ) (s : Session) (word : ℕ) : Awaited → Session
   flag_at_lem : Step text s word IdentityRead (having_read s (with_identity s.position.read word)) FlagAt (point_to (address_of s) 0x87 0xBD)
   flag_read_lem : Step text s word FlagAt s FlagRead (read_data (address_of s))
   revision_read_lem : Step text s word FlagRead (having_read s (with_flag s.position.read word)) RevisionRead (read_block (address_of s) 0xAE)
-  line_out_lem : (g : Awaited) (n : LineNumber) → Due s word g n → (l : Line) (next : ℕ) → next_line n s.position.place text ≡ Took l next
+  line_out_lem : (g : Awaited) (n : LineNumber) → Due s word g n → (l : Line) (next : ℕ) → next_line n s.position.place text ≡ Ok (Some (l, next))
       → (is_burn l ≡ true) ↔ (n.0 ≡ s.file.lines) → (b : Bool) → (is_burn l ≡ true → b ≡ true) → (is_burn l ≡ false → b ≡ s.burned)
       → Step text s word g (with_burned (with_position s (at_line s.position n next)) b) LineOut (line_request (address_of s) l)
   status_at_lem : s.file.lines ≤ s.position.line.0 → Step text s word LineOut s StatusAt (point_to (address_of s) 0x7E 0x00)
@@ -100,7 +99,7 @@ module _ (text : List ℕ) (s : Session) (held : Keeps s.settings.rule (kept_of 
     (puts : (g : Awaited) (t : Session) → Kept s t → (next : Awaited) (q : Request) → Step text s word g t next q → P g (put_of t next q))
     (ends : (g : Awaited) (v : Verdict) → P g (end_of s v))
     (bads : (g : Awaited) (n : LineNumber) → Due s word g n → Unfit text s n → P g (bad_of s)) where
-  took_every : (g : Awaited) (n : LineNumber) → Due s word g n → (l : Line) (next : ℕ) → next_line n s.position.place text ≡ Took l next
+  took_every : (g : Awaited) (n : LineNumber) → Due s word g n → (l : Line) (next : ℕ) → next_line n s.position.place text ≡ Ok (Some (l, next))
       → P g (took_of s l next n)
   unfolding took_of due_put_of
   took_every g n d l next e =
@@ -109,11 +108,11 @@ module _ (text : List ℕ) (s : Session) (held : Keeps s.settings.rule (kept_of 
       (λ f. by (P g) (eqb n.0 s.file.lines) _ _ (λ h. bads g n d (late l next e f (eqb-true _ _ h))) (λ h. puts g _ (kept_burned s _ s.burned (λ x. x)) _ _
       (line_out_lem g n d l next e ((λ x. absurd (true≢false (sym x ∙ f))), λ x. absurd (eqb-false _ _ h x)) s.burned (λ x. absurd (true≢false (sym x ∙ f))) (λ x. refl))))
 
-  due_every : (g : Awaited) (n : LineNumber) → Due s word g n → (t : line.NextLine) → next_line n s.position.place text ≡ t → P g (due_of s n t)
+  due_every : (g : Awaited) (n : LineNumber) → Due s word g n → (t : NextLine) → next_line n s.position.place text ≡ t → P g (due_of s n t)
   unfolding due_of
-  due_every g n d End e = bads g n d (no_line (λ l next f. let z : ◌≡◌ {A = ℕ} 0 1 = cc in omega arith))
-  due_every g n d (Took l next) e = took_every g n d l next e
-  due_every g n d (Stopped fault) e = bads g n d (no_line (λ l next f. let z : ◌≡◌ {A = ℕ} 0 1 = cc in omega arith))
+  due_every g n d (Ok None) e = bads g n d (no_line (λ l next f. let z : ◌≡◌ {A = ℕ} 0 1 = cc in omega arith))
+  due_every g n d (Ok (Some (l, next))) e = took_every g n d l next e
+  due_every g n d (Err fault) e = bads g n d (no_line (λ l next f. let z : ◌≡◌ {A = ℕ} 0 1 = cc in omega arith))
 
   line_every : (g : Awaited) (n : LineNumber) → Due s word g n → P g (put_line_of text s n)
   unfolding put_line_of
@@ -125,12 +124,12 @@ module _ (text : List ℕ) (s : Session) (held : Keeps s.settings.rule (kept_of 
       by (P LineOut) (ltb s.position.line.0 s.file.lines) (put_line_of text s (line_number (s.position.line.0 + 1)))
       (put_of s StatusAt (point_to s.settings.address 0x7E 0x00)) (λ e. line_every LineOut _ (later (ltb-true _ _ e))) (λ e. puts LineOut s (kept s) _ _ (status_at_lem (ltb-false _ _ e)))
 
-  fit_every : (f : Fit) → fit_held s word ≡ f → P RevisionRead (fit_done_of text s f)
+  fit_every : (f : Result (Unit {0}) Reason) → fit_held s word ≡ f → P RevisionRead (fit_done_of text s f)
   unfolding fit_done_of fit_held
-  fit_every Matched e =
+  fit_every (Ok tt) e =
       line_every RevisionRead _
       (first _ held ((judged_exactly (target_of s.file) (kept_of s.settings.rule) (with_revision s.position.read word)).matches e))
-  fit_every (Fails r) e = ends RevisionRead (Halted r)
+  fit_every (Err r) e = ends RevisionRead (Halted r)
 
   polled_every : (p : Polled) → P StatusRead (polled_done_of s p)
   unfolding polled_done_of poll_again_of

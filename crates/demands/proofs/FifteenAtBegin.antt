@@ -2,12 +2,12 @@
 use mathlib.Core.Path.{◌≡◌, refl, sym, ◌∙◌}
 use mathlib.Core.Bool.{true, true≢false}
 use native.Mathlib.Omega.{arith}
+use Rattle.std.specs.Prelude.{Some}
 use Rattle.promise.proofs.Basics.{split}
 use Rattle.summary.specs.declared.Told.{Told}
 use Rattle.summary.specs.declared.Summary.{Summary}
 use Rattle.guide.specs.declared.Verdict.TheVariants.{Setting}
 use Rattle.session.specs.declared.Settings.{Settings}
-use Rattle.session.specs.declared.Report.TheVariants.{Is}
 use Rattle.session.specs.Reports.{report_of}
 use Rattle.session.specs.Moves.{over_of}
 use Rattle.session.specs.Sound.{allowed_of, file_sound}
@@ -32,7 +32,7 @@ module _ (S : Settings) where
     in_sound : (SummaryOut f → ⊥) → file_sound f ≡ true
     in_sound inside = split (file_sound f) (λ e. e) (λ e. absurd (inside (unsound_out f e)))
 
-    only : (t : Told) → report_of (begin_with S f).answer ≡ Is t → t.number ≡ 15 → (SettingOut S → ⊥) × SummaryOut f
+    only : (t : Told) → report_of (begin_with S f).answer ≡ Some t → t.number ≡ 15 → (SettingOut S → ⊥) × SummaryOut f
     only t e n =
         split (allowed_of S)
         (λ a. (allowed_in a, split (file_sound f) (λ s. waits S f t (rw (← begin_sound S f a s) at e)) (unsound_out f)))

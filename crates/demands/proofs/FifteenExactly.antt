@@ -4,12 +4,12 @@ use Prim.Native.Nat.{ℕ}
 use mathlib.Core.Path.{◌≡◌, refl, sym, ap, ◌∙◌}
 use mathlib.Core.Bool.{Bool, true, false, cond}
 use mathlib.Core.List.{List}
+use Rattle.std.specs.Prelude.{Result, Ok, Err}
 use Rattle.counts.specs.declared.LineNumber.{LineNumber}
 use Rattle.bus.specs.Bus.{eight, no_request}
 use Rattle.bus.specs.ReplyForm.{form_of}
 use Rattle.bus.specs.declared.Request.{Request}
-use Rattle.bus.specs.declared.ReplyForm.{ReplyForm}
-use Rattle.bus.specs.declared.ReplyForm.TheVariants.{Unanswered, Misshapen, Miscoded, Good}
+use Rattle.bus.specs.declared.Misreply.{Misreply}
 use Rattle.guide.specs.declared.Verdict.{Verdict}
 use Rattle.session.specs.declared.Session.{Session}
 use Rattle.session.specs.declared.Handed.{Handed}
@@ -48,12 +48,10 @@ module _ (text : List ℕ) (s : Session) (kind : ℕ) (bs : List ℕ) where
   unfolding bad_of no_request eight
   bad_shown g f = record { only = λ e. f; leaves = λ e. (refl, refl); ends = λ v e. over_bad (sym e) }
 
-  replied_shown : sound_of s ≡ true → (g : Awaited) (f : ReplyForm) → form_of s.hand kind bs ≡ f → Shown g (replied_of text s g f)
+  replied_shown : sound_of s ≡ true → (g : Awaited) (f : Result ℕ Misreply) → form_of s.hand kind bs ≡ f → Shown g (replied_of text s g f)
   unfolding replied_of
-  replied_shown ok g Unanswered e = end_shown g _
-  replied_shown ok g Misshapen e = end_shown g _
-  replied_shown ok g Miscoded e = end_shown g _
-  replied_shown ok g (Good word) e =
+  replied_shown ok g (Err m) e = end_shown g _
+  replied_shown ok g (Ok word) e =
       step_every text s (held_rule s ok) word Shown put_shown end_shown (λ h n d u. bad_shown h (due word n e d u)) g
 
   open_shown : (g : Awaited) (b : Bool) → sound_of s ≡ b → Shown g (cond b (replied_of text s g (form_of s.hand kind bs)) (bad_of s))
@@ -79,7 +77,7 @@ module _ (text : List ℕ) (s : Session) (kind : ℕ) (bs : List ℕ) where
   by_stage (Open h) e f k = f h e
   by_stage (Ended v) e f k = k v e
 
-  due_refused : (g : Awaited) (word : ℕ) (n : LineNumber) → form_of s.hand kind bs ≡ Good word → Due s word g n → Unfit text s n
+  due_refused : (g : Awaited) (word : ℕ) (n : LineNumber) → form_of s.hand kind bs ≡ Ok word → Due s word g n → Unfit text s n
       → (b : Bool) → cond b (replied_of text s g (form_of s.hand kind bs)) (bad_of s) ≡ bad_of s
   unfolding replied_of
   due_refused g word n f d u true = rw f (due_bad text s word g n d u)

@@ -7,16 +7,15 @@ use Prim.Native.Nat.{ℕ, ◌+◌, ◌≤◌}
 use native.Mathlib.Omega.{arith}
 use lib.ListN.{length}
 use borrow.Author.Tests.{ne_eqb}
+use Rattle.std.specs.Prelude.{Result, Ok, Err}
 use Rattle.line.specs.declared.Line.{Line}
 use Rattle.bus.specs.declared.Request.{Request}
-use Rattle.bus.specs.declared.ReplyForm.{ReplyForm}
-use Rattle.bus.specs.declared.ReplyForm.TheVariants.{Unanswered, Misshapen, Miscoded, Good}
+use Rattle.bus.specs.declared.Misreply.{Misreply}
 use Rattle.bus.specs.Bus.{no_request}
 use Rattle.guide.specs.declared.Verdict.{Verdict}
-use Rattle.guide.specs.declared.Reason.TheVariants.{Nack, Shape, Pec}
 use Rattle.guide.specs.declared.Verdict.TheVariants.{Halted}
 use Rattle.guide.specs.Plan.{Reply, Mark, other, Plan, ask, done, verdict}
-use Rattle.guide.specs.Guide.{hear}
+use Rattle.guide.specs.Guide.{hear, reply_reason}
 use Rattle.guide.specs.Statements.{is_burn_mark}
 use Rattle.guide.proofs.Through.{asked}
 use Rattle.session.specs.declared.Position.{Position}
@@ -66,13 +65,11 @@ module _ (text : List ℕ) (ls : List Line) where
   unfolding end_of with_stage no_request put_out root_of size_of burn_of answer_for verdict
   end_fits s v = record { sim = finished; out = refl; settings = refl; file = refl; counting = omega arith; burning = sym (or-false s.burned); says = refl }
 
-  pub hear_fits : (s : Session) (g : Awaited) (next : ℕ → Plan) (h : ReplyForm) → ((w : ℕ) → Fits s (next w) (follow_of text s g w))
+  pub hear_fits : (s : Session) (g : Awaited) (next : ℕ → Plan) (h : Result ℕ Misreply) → ((w : ℕ) → Fits s (next w) (follow_of text s g w))
       → Fits s (hear h next) (replied_of text s g h)
   unfolding hear replied_of
-  hear_fits s g next Unanswered f = end_fits s (Halted Nack)
-  hear_fits s g next Misshapen f = end_fits s (Halted Shape)
-  hear_fits s g next Miscoded f = end_fits s (Halted Pec)
-  hear_fits s g next (Good w) f = f w
+  hear_fits s g next (Err m) f = end_fits s (Halted (reply_reason m))
+  hear_fits s g next (Ok w) f = f w
 
   pub put_fits : (s t : Session) (g : Awaited) (m : Mark) (q : Request) (next : Reply → Plan)
       → t.settings ≡ s.settings → t.file ≡ s.file → t.sent ≡ s.sent → t.burned ≡ (s.burned || is_burn_mark (4 + length ls) m) → 1 ≤ q.used

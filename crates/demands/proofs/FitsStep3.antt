@@ -7,13 +7,13 @@ use native.Mathlib.Omega.{arith}
 use lib.Dec.{eqb}
 use lib.ListN.{length}
 use borrow.Author.Tests.{lt-ltb, le-ltb, eq-eqb, ne_eqb}
+use Rattle.std.specs.Prelude.{Result, Ok, Err}
 use Rattle.counts.specs.Counts.{line_number, first_line}
 use Rattle.line.specs.declared.Line.{Line}
 use Rattle.image.proofs.Holds.{Holds, BurnLast}
 use Rattle.bus.specs.Bus.{framed, write_of}
-use Rattle.guide.specs.declared.Fit.{Fit}
+use Rattle.guide.specs.declared.Reason.{Reason}
 use Rattle.guide.specs.declared.Verdict.TheVariants.{Halted}
-use Rattle.guide.specs.declared.Fit.TheVariants.{Matched, Fails}
 use Rattle.guide.specs.Plan.{file_line}
 use Rattle.guide.specs.Guide.{gate, lines}
 use Rattle.guide.specs.Requests.{line_request}
@@ -68,8 +68,8 @@ module _ (text : List ℕ) (ls : List Line) where
       rw (lt-ltb (line text ls s) s.file.lines (omega arith))
       (line_fits s (line text ls s + 1) m more h d.1 (omega arith) (omega arith) c p K)
 
-  pub gate_fits : (s : Session) (x : Fit) → Fresh text ls s → Lasting text ls s.settings s.file
+  pub gate_fits : (s : Session) (x : Result (Unit {0}) Reason) → Fresh text ls s → Lasting text ls s.settings s.file
       → Fits text ls s (gate x (RestOfGuide.lines_from (terms_of s.settings) s.file ls 5 ls)) (fit_done_of text s x)
   unfolding gate fit_done_of
-  gate_fits s Matched f K = first_line_fits s ls refl K.burns f K
-  gate_fits s (Fails r) f K = end_fits text ls s (Halted r)
+  gate_fits s (Ok tt) f K = first_line_fits s ls refl K.burns f K
+  gate_fits s (Err r) f K = end_fits text ls s (Halted r)

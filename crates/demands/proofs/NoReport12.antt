@@ -3,6 +3,7 @@ use Prim.Native.Nat.{ℕ, ◌≤◌}
 use mathlib.Core.Path.{◌≡◌, ap, ◌∙◌}
 use native.Mathlib.Omega.{arith}
 use lib.Dec.{lit≤}
+use Rattle.std.specs.Prelude.{Some}
 use Rattle.summary.specs.declared.Told.{Told}
 use Rattle.summary.proofs.Numbers.{refusal_number}
 use Rattle.guide.specs.declared.Reason.{Reason}
@@ -12,7 +13,6 @@ use Rattle.guide.specs.declared.Verdict.TheVariants.{Done, Setting, File, Mismat
 use Rattle.guide.specs.Numbers.{reason_number, verdict_told}
 use Rattle.session.specs.declared.Answer.{Answer}
 use Rattle.session.specs.declared.Answer.TheVariants.{Next, Over, BadState}
-use Rattle.session.specs.declared.Report.TheVariants.{Is}
 use Rattle.session.specs.Reports.{report_of}
 use Rattle.demands.specs.Exactly.{NoReport12}
 
@@ -38,7 +38,7 @@ verdict_not (Halted r) e = omega (arith, reason_late r)
 verdict_not State e = omega arith
 
 -- the same number, where the same is told
-told_not : (t u : Told) → (t.number ≡ 12 → ⊥) → Is t ≡ Is u → u.number ≡ 12 → ⊥
+told_not : (t u : Told) → (t.number ≡ 12 → ⊥) → Some t ≡ Some u → u.number ≡ 12 → ⊥
 told_not t u not e n = let same : t ≡ u = cc in not (ap (λ (x : Told). x.number) same ∙ n)
 
 pub no_report_12 : (a : Answer) → NoReport12 a

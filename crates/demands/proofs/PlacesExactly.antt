@@ -3,6 +3,7 @@ use mathlib.Core.Path.{◌≡◌, sym, ap, ◌∙◌}
 use mathlib.Core.List.{List, []}
 use Prim.Native.Nat.{ℕ, ◌+◌, ◌<◌}
 use native.Mathlib.Omega.{arith}
+use Rattle.std.specs.Prelude.{Some}
 use Rattle.counts.specs.Counts.{line_number, line_place, config_number}
 use Rattle.summary.specs.declared.Told.{Told}
 use Rattle.summary.specs.Answers.{told, plain}
@@ -14,7 +15,6 @@ use Rattle.guide.proofs.ShortOfPlaces.{short_passes, passes_short, Ends28, cours
 use Rattle.guide.specs.Wire.{in_use}
 use Rattle.guide.proofs.LineBytes.{in_use_lem}
 use Rattle.session.specs.declared.Settings.{Settings}
-use Rattle.session.specs.declared.Report.TheVariants.{Is}
 use Rattle.session.specs.Terms.{kept_of, keeping}
 use Rattle.session.specs.declared.Handed.{Handed}
 use Rattle.demands.specs.Runs.{BegunFor}
@@ -34,7 +34,7 @@ is_few rule1 h = under1 (omega arith)
 is_few rule2 h = under2 h
 
 -- what is reported of a course tells it
-tells_28 : (x : Now) → report_for x ≡ Is (plain 28) → x ≡ over 28 0
+tells_28 : (x : Now) → report_for x ≡ Some (plain 28) → x ≡ over 28 0
 tells_28 course.waiting e = let z : ◌≡◌ {A = ℕ} 0 1 = cc in absurd (let y : ⊥ = omega arith in y)
 tells_28 (over m N) e =
     let same : told m (line_number 0) (line_place 0) (config_number N) ≡ plain 28 = cc in
@@ -46,7 +46,7 @@ pub places_exactly : (S : Settings) {kept : ℕ} → Keeps S.rule kept → {text
     → PlacesExactly S m h rs
 places_exactly S {kept} r {text} m a {h} b rs = record { only = only; when = when }
   where
-    only : reported text h rs ≡ Is (plain 28) → ShortOfPlaces S m rs
+    only : reported text h rs ≡ Some (plain 28) → ShortOfPlaces S m rs
     only e =
         let d = demand2 S (in_use_lem S.address) r m a rs b in
         let c : Ends28 (keeping kept S) (content_in (in_use S.address) m) rs = course_28 d.goes (tells_28 d.now (sym d.tells ∙ e)) in
@@ -63,7 +63,7 @@ places_exactly S {kept} r {text} m a {h} b rs = record { only = only; when = whe
           few = is_few r p.1;
         }
 
-    when : ShortOfPlaces S m rs → reported text h rs ≡ Is (plain 28)
+    when : ShortOfPlaces S m rs → reported text h rs ≡ Some (plain 28)
     when s =
         let w : Said = record { captured = s.captured; read = s.read; busy = []; last = 0; banks = 0 } in
         let f = passes_short (target_in m) kept s.read

@@ -1,5 +1,6 @@
 -- What an accepted file and allowed settings leave known to a session: the text holds the guide's write lines from the place that
 -- the summary names, and 15 lets the file and the settings pass. Assumes nothing.
+use Rattle.std.specs.Prelude.{Ok, Err}
 use mathlib.Core.Path.{◌≡◌, refl, sym, ap, ◌∙◌}
 use mathlib.Core.List.{List, [], ◌∷◌}
 use mathlib.Core.Bool.{true}
@@ -12,9 +13,7 @@ use Rattle.counts.specs.Counts.{config_id}
 use Rattle.line.specs.declared.Line.{Line}
 use Rattle.cuts.specs.Lines.{lines_of}
 use Rattle.summary.specs.declared.Refusal.{Refusal}
-use Rattle.summary.specs.declared.FileAnswer.{FileAnswer}
-use Rattle.summary.specs.declared.FileAnswer.TheVariants.{Accepted, Refused}
-use Rattle.summary.specs.Answers.{no_summary}
+use Rattle.summary.specs.Answers.{FileAnswer, no_summary}
 use Rattle.image.specs.Says.{summary_of}
 use Rattle.image.specs.Check.{answer_of, checked_as, check_of}
 use Rattle.image.specs.Meets.{Meets, SummarySays}
@@ -51,15 +50,15 @@ ids_sound_lem [] (suc k) f = refl
 ids_sound_lem (i ∷ is) (suc k) f = rw (le-leb i.0 15 (f 0 (omega arith))) (ids_sound_lem is k (λ N h. f (suc N) (omega arith)))
 
 -- a refused check's summary is of zeros
-pub refused_summary : (text : List ℕ) (r : Refusal) → (check_of text).answer ≡ Refused r → (check_of text).summary ≡ no_summary
+pub refused_summary : (text : List ℕ) (r : Refusal) → (check_of text).answer ≡ Err r → (check_of text).summary ≡ no_summary
 unfolding check_of checked_as
 refused_summary text r = by (answer_of text)
   where
-    by : (a : FileAnswer) → (checked_as text a).answer ≡ Refused r → (checked_as text a).summary ≡ no_summary
-    by Accepted e = let z : ◌≡◌ {A = ℕ} 0 1 = cc in absurd (let y : ⊥ = omega arith in y)
-    by (Refused q) e = refl
+    by : (a : FileAnswer) → (checked_as text a).answer ≡ Err r → (checked_as text a).summary ≡ no_summary
+    by (Ok tt) e = let z : ◌≡◌ {A = ℕ} 0 1 = cc in absurd (let y : ⊥ = omega arith in y)
+    by (Err q) e = refl
 
-module _ (text : List ℕ) (taken : (check_of text).answer ≡ Accepted) where
+module _ (text : List ℕ) (taken : (check_of text).answer ≡ Ok tt) where
   abbrev file : Summary
   file = (check_of text).summary
 
@@ -75,7 +74,7 @@ module _ (text : List ℕ) (taken : (check_of text).answer ≡ Accepted) where
       )
 
 module _ {S : Settings} {kept : ℕ} {text : List ℕ} {file : Summary} (P : Premises S kept text file) where
-  pub taken : (check_of text).answer ≡ Accepted
+  pub taken : (check_of text).answer ≡ Ok tt
   taken = zero_accepts (check_of text).answer P.accepted
 
   pub meets : Meets text

@@ -5,9 +5,9 @@ use mathlib.Core.Logic.{◌⊎◌, inl, inr}
 use mathlib.Core.Bool.{Bool, true, false, cond}
 use native.Mathlib.Omega.{arith}
 use borrow.Author.Tests.{leb-true, ltb-true}
+use Rattle.std.specs.Prelude.{Result, Ok, Err}
 use Rattle.bus.specs.declared.Request.{Request}
-use Rattle.bus.specs.declared.ReplyForm.{ReplyForm}
-use Rattle.bus.specs.declared.ReplyForm.TheVariants.{Unanswered, Misshapen, Miscoded, Good}
+use Rattle.bus.specs.declared.Misreply.{Misreply}
 use Rattle.bus.specs.Bus.{eight, no_request}
 use Rattle.bus.specs.ReplyForm.{form_of}
 use Rattle.guide.specs.declared.Verdict.{Verdict}
@@ -55,7 +55,7 @@ module _ (s : Session) (c : Call) where
   abbrev pub Out : Request → Type 0
   Out q = Own s.settings s.file q ⊎ DueLine s c q
 
-  pub step_out : Held s → (w : ℕ) → form_of s.hand c.reply.kind c.reply.bytes ≡ Good w → (g : Awaited) → s.stage ≡ Open g
+  pub step_out : Held s → (w : ℕ) → form_of s.hand c.reply.kind c.reply.bytes ≡ Ok w → (g : Awaited) → s.stage ≡ Open g
       → (t : Session) (next : Awaited) (q : Request) → Step c.text s w g t next q → Out q
   step_out h w f g o _ _ _ step.capture_read_lem = inl word
   step_out h w f g o _ _ _ step.capture_write_lem = inl (back w)
@@ -98,13 +98,11 @@ module _ (s : Session) (c : Call) where
   unfolding bad_of no_request eight
   bad_shown = record { puts = λ e. next_bad (sym e); silent = λ _. refl }
 
-  replied_shown : sound_of s ≡ true → (g : Awaited) → s.stage ≡ Open g → (f : ReplyForm) → form_of s.hand c.reply.kind c.reply.bytes ≡ f
+  replied_shown : sound_of s ≡ true → (g : Awaited) → s.stage ≡ Open g → (f : Result ℕ Misreply) → form_of s.hand c.reply.kind c.reply.bytes ≡ f
       → Shown (replied_of c.text s g f)
   unfolding replied_of
-  replied_shown ok g o Unanswered e = end_shown _
-  replied_shown ok g o Misshapen e = end_shown _
-  replied_shown ok g o Miscoded e = end_shown _
-  replied_shown ok g o (Good w) e =
+  replied_shown ok g o (Err m) e = end_shown _
+  replied_shown ok g o (Ok w) e =
       step_every c.text s (held_rule s ok) w (λ k h. s.stage ≡ Open k → Shown h)
       (λ k t kept next q x p. put_shown t next q (step_out (held s ok) w e k p t next q x)) (λ k v p. end_shown v) (λ k n d u p. bad_shown) g o
 

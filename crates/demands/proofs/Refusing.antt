@@ -1,4 +1,5 @@
 -- Where a write line is due and what stands at the held place may not go out, the state is refused. Assumes nothing.
+use Rattle.std.specs.Prelude.{Some, None, Ok, Err}
 use Prim.Native.Nat.{ℕ}
 use mathlib.Core.Path.{◌≡◌, refl, ap, ◌∙◌}
 use mathlib.Core.Bool.{true, false}
@@ -6,9 +7,7 @@ use mathlib.Core.List.{List}
 use borrow.Author.Tests.{lt-ltb, eq-eqb, ne_eqb}
 use Rattle.counts.specs.declared.LineNumber.{LineNumber}
 use Rattle.line.specs.declared.Line.{Line}
-use Rattle.line.specs.declared.NextLine as line
-use Rattle.line.specs.declared.NextLine.TheVariants.{End, Took, Stopped}
-use Rattle.line.specs.Reading.{next_line}
+use Rattle.line.specs.Reading.{next_line, NextLine}
 use Rattle.summary.specs.Burn.{is_burn}
 use Rattle.guide.proofs.JudgedExactly.{judged_exactly}
 use Rattle.session.specs.declared.Session.{Session}
@@ -22,18 +21,18 @@ use Rattle.guide.specs.Guide.{target_of}
 use Rattle.demands.proofs.SettingsSay.{kept_is}
 
 module _ (text : List ℕ) (s : Session) where
-  no_line_bad : (n : LineNumber) (t : line.NextLine) → next_line n s.position.place text ≡ t
-      → ((l : Line) (next : ℕ) → next_line n s.position.place text ≡ Took l next → ⊥) → due_of s n t ≡ bad_of s
+  no_line_bad : (n : LineNumber) (t : NextLine) → next_line n s.position.place text ≡ t
+      → ((l : Line) (next : ℕ) → next_line n s.position.place text ≡ Ok (Some (l, next)) → ⊥) → due_of s n t ≡ bad_of s
   unfolding due_of
-  no_line_bad n End e f = refl
-  no_line_bad n (Took l next) e f = absurd (f l next e)
-  no_line_bad n (Stopped fault) e f = refl
+  no_line_bad n (Ok None) e f = refl
+  no_line_bad n (Ok (Some (l, next))) e f = absurd (f l next e)
+  no_line_bad n (Err fault) e f = refl
 
-  early_bad : (n : LineNumber) (l : Line) (next : ℕ) → is_burn l ≡ true → (n.0 ≡ s.file.lines → ⊥) → due_of s n (Took l next) ≡ bad_of s
+  early_bad : (n : LineNumber) (l : Line) (next : ℕ) → is_burn l ≡ true → (n.0 ≡ s.file.lines → ⊥) → due_of s n (Ok (Some (l, next))) ≡ bad_of s
   unfolding due_of took_of
   early_bad n l next b h = simp (b, ne_eqb n.0 s.file.lines h)
 
-  late_bad : (n : LineNumber) (l : Line) (next : ℕ) → is_burn l ≡ false → n.0 ≡ s.file.lines → due_of s n (Took l next) ≡ bad_of s
+  late_bad : (n : LineNumber) (l : Line) (next : ℕ) → is_burn l ≡ false → n.0 ≡ s.file.lines → due_of s n (Ok (Some (l, next))) ≡ bad_of s
   unfolding due_of took_of
   late_bad n l next b h = simp (b, eq-eqb n.0 s.file.lines h)
 

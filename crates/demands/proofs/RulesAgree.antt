@@ -1,15 +1,15 @@
 -- With the same text, replies and other settings, rule 2 gives what rule 1 gives, or it ends with 28. Assumes nothing.
+use Rattle.std.specs.Prelude.{Ok, Err}
 use mathlib.Core.Path.{◌≡◌, refl, sym, ap, ◌∙◌}
 use mathlib.Core.Logic.{◌⊎◌, inl, inr}
 use mathlib.Core.Bool.{true}
 use mathlib.Core.List.{List, [], ◌∷◌}
 use Prim.Native.Nat.{ℕ}
 use native.Mathlib.Omega.{arith}
+use Rattle.std.specs.Prelude.{Some}
 use Rattle.promise.proofs.Basics.{split}
-use Rattle.summary.specs.declared.FileAnswer.{FileAnswer}
-use Rattle.summary.specs.declared.FileAnswer.TheVariants.{Accepted, Refused}
 use Rattle.summary.specs.declared.Told.{Told}
-use Rattle.summary.specs.Answers.{answer_told, plain}
+use Rattle.summary.specs.Answers.{FileAnswer, answer_told, plain}
 use Rattle.image.specs.Check.{check_of}
 use Rattle.image.specs.Meets.{Meets}
 use Rattle.image.proofs.AcceptedExactly.{accepted_exactly}
@@ -20,7 +20,6 @@ use Rattle.guide.specs.Course.{Now, over, Course}
 use Rattle.guide.proofs.FewerKept.{course_with_fewer}
 use Rattle.guide.specs.Wire.{in_use}
 use Rattle.session.specs.declared.Settings.{Settings}
-use Rattle.session.specs.declared.Report.TheVariants.{Is}
 use Rattle.session.specs.declared.Answer.TheVariants.{Over}
 use Rattle.session.specs.Terms.{keeping}
 use Rattle.session.specs.Moves.{over_of}
@@ -60,7 +59,7 @@ module _ (S : Settings) (text : List ℕ) (rs : List Reply) where
       }
 
   abbrev Agree : Type 0
-  Agree = SameUnderBoth S text rs ⊎ (reported text (under S text rs 2) rs ≡ Is (plain 28))
+  Agree = SameUnderBoth S text rs ⊎ (reported text (under S text rs 2) rs ≡ Some (plain 28))
 
   by_course : (m : Meets text) (d : Demanded (in_use S.address) S2 2 m (under S text rs 2) rs) → Demanded (in_use S.address) S1 0 m (under S text rs 1) rs
       → Course (keeping 0 S1) (content_in (in_use S.address) m) rs d.demand2.now (sent text (under S text rs 2) rs) ⊎ (d.demand2.now ≡ over 28 0) → Agree
@@ -82,18 +81,18 @@ module _ (S : Settings) (text : List ℕ) (rs : List Reply) where
       (λ e. inl (both_refused Setting (begin_not S2 text e) (begin_not S1 text (same_allowed ∙ e))))
     where
       by_file : allowed_of S2 ≡ true → (a : FileAnswer) → (check_of text).answer ≡ a → Agree
-      by_file e Accepted h = accepted_agree ((accepted_exactly text).accepted_meets (ap (λ (a : FileAnswer). (answer_told a).number) h)) e
-      by_file e (Refused r) h =
-          inl (both_refused (File r) (begin_answered S2 text (check_of text) (Refused r) refl e h)
-          (begin_answered S1 text (check_of text) (Refused r) refl (same_allowed ∙ e) h))
+      by_file e (Ok tt) h = accepted_agree ((accepted_exactly text).accepted_meets (ap (λ (a : FileAnswer). (answer_told a).number) h)) e
+      by_file e (Err r) h =
+          inl (both_refused (File r) (begin_answered S2 text (check_of text) (Err r) refl e h)
+          (begin_answered S1 text (check_of text) (Err r) refl (same_allowed ∙ e) h))
 
   pub rules_agree : RulesAgree S text rs
   rules_agree = record { agree = agree; passes = by agree }
     where
-      by : Agree → reported text (under S text rs 2) rs ≡ Is (plain 0) → SameUnderBoth S text rs × (reported text (under S text rs 1) rs ≡ Is (plain 0))
+      by : Agree → reported text (under S text rs 2) rs ≡ Some (plain 0) → SameUnderBoth S text rs × (reported text (under S text rs 1) rs ≡ Some (plain 0))
       by (inl same) e = (same, sym same.report ∙ e)
       by (inr f) e =
-          let z : Is (plain 28) ≡ Is (plain 0) = sym f ∙ e in
+          let z : Some (plain 28) ≡ Some (plain 0) = sym f ∙ e in
           let same : plain 28 ≡ plain 0 = cc in
           let number : ◌≡◌ {A = ℕ} 28 0 = ap (λ (t : Told). t.number) same in
           absurd (let y : ⊥ = omega arith in y)

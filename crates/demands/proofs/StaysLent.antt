@@ -4,10 +4,10 @@ use mathlib.Core.Path.{◌≡◌, refl, sym, ap, subst, ◌∙◌}
 use mathlib.Core.Bool.{Bool, true, false, true≢false}
 use mathlib.Core.List.{List, [], ◌∷◌, ◌++◌, append_assoc}
 use native.Mathlib.Omega.{arith}
+use Rattle.std.specs.Prelude.{Ok}
 use Rattle.counts.specs.declared.LineNumber.{LineNumber}
 use Rattle.line.specs.declared.Line.{Line}
 use Rattle.bus.specs.declared.Request.{Request}
-use Rattle.bus.specs.declared.ReplyForm.TheVariants.{Good}
 use Rattle.bus.specs.ReplyForm.{form_of}
 use Rattle.bus.specs.InForm.{register, block}
 use Rattle.guide.specs.declared.Words.{Words}
@@ -29,7 +29,7 @@ use Rattle.demands.proofs.EveryStep.{from_first, next_one, Step}
 use Rattle.demands.proofs.PutsOut.{Held}
 use Rattle.demands.proofs.WhereLent.{heard_one, was_read, was_written, before2, opening_is, Opened, Behind, In2, Where, matched_later}
 
-module _ (s : Session) (rs : List Reply) (out : List Request) (r : Reply) (w : ℕ) (held : Held s) (form : form_of s.hand r.kind r.bytes ≡ Good w) where
+module _ (s : Session) (rs : List Reply) (out : List Request) (r : Reply) (w : ℕ) (held : Held s) (form : form_of s.hand r.kind r.bytes ≡ Ok w) where
   abbrev a : ℕ
   a = address_of s
 
@@ -39,7 +39,7 @@ module _ (s : Session) (rs : List Reply) (out : List Request) (r : Reply) (w : �
   -- ---- steps 1 and 2
 
   -- the request in hand was this one
-  was : {most : ℕ} {xs : List Exchange} {q : Request} → Opened s rs out most xs q → form_of q r.kind r.bytes ≡ Good w
+  was : {most : ℕ} {xs : List Exchange} {q : Request} → Opened s rs out most xs q → form_of q r.kind r.bytes ≡ Ok w
   was o = rw o.hand at form
 
   -- its reply was heard, and the next is asked

@@ -8,11 +8,11 @@ use mathlib.Core.List.{List, [], ◌∷◌, ◌++◌, append_assoc, append-nil, 
 use native.Mathlib.Omega.{arith}
 use lib.ListN.{length, length-append}
 use borrow.Author.Tests.{leb-true}
+use Rattle.std.specs.Prelude.{Result, Ok, Err}
 use Rattle.promise.proofs.Basics.{split}
 use Rattle.summary.specs.declared.Summary.{Summary}
 use Rattle.bus.specs.declared.Request.{Request}
-use Rattle.bus.specs.declared.ReplyForm.{ReplyForm}
-use Rattle.bus.specs.declared.ReplyForm.TheVariants.{Unanswered, Misshapen, Miscoded, Good}
+use Rattle.bus.specs.declared.Misreply.{Misreply}
 use Rattle.bus.specs.Bus.{eight, framed, write_of, read_of, no_request}
 use Rattle.bus.specs.ReplyForm.{form_of}
 use Rattle.guide.specs.declared.Verdict.{Verdict}
@@ -115,7 +115,7 @@ module _ (s : Session) (rs : List Reply) (out : List Request) (x : Stands s rs o
   abbrev Shown : Handed → Type 0
   Shown h = Stands h.session (rs ++ taken_by h.answer c.reply) (out ++ put_out h.request)
 
-  put_shown : (w : ℕ) → form_of s.hand c.reply.kind c.reply.bytes ≡ Good w → sound_of s ≡ true → (g : Awaited) → s.stage ≡ Open g → Where s rs out g
+  put_shown : (w : ℕ) → form_of s.hand c.reply.kind c.reply.bytes ≡ Ok w → sound_of s ≡ true → (g : Awaited) → s.stage ≡ Open g → Where s rs out g
       → (t : Session) → Kept s t → (next : Awaited) (q : Request) → Step c.text s w g t next q → Shown (put_of t next q)
   unfolding put_of with_sent with_stage taken_by AtStage QuietAt
   put_shown w f ok g o at t k next q step =
@@ -151,13 +151,11 @@ module _ (s : Session) (rs : List Reply) (out : List Request) (x : Stands s rs o
   unfolding bad_of taken_by put_out no_request
   bad_shown = rw (append-nil rs, append-nil out) x
 
-  replied_shown : sound_of s ≡ true → (g : Awaited) → s.stage ≡ Open g → Where s rs out g → (f : ReplyForm) → form_of s.hand c.reply.kind c.reply.bytes ≡ f
+  replied_shown : sound_of s ≡ true → (g : Awaited) → s.stage ≡ Open g → Where s rs out g → (f : Result ℕ Misreply) → form_of s.hand c.reply.kind c.reply.bytes ≡ f
       → Shown (replied_of c.text s g f)
   unfolding replied_of
-  replied_shown ok g o at Unanswered e = end_shown _
-  replied_shown ok g o at Misshapen e = end_shown _
-  replied_shown ok g o at Miscoded e = end_shown _
-  replied_shown ok g o at (Good w) e =
+  replied_shown ok g o at (Err m) e = end_shown _
+  replied_shown ok g o at (Ok w) e =
       step_every c.text s (held_rule s ok) w (λ k h. s.stage ≡ Open k → Where s rs out k → Shown h)
       (λ k t kept next q step p z. put_shown w e ok k p z t kept next q step) (λ k v p z. end_shown v) (λ k n d u p z. bad_shown) g o at
 

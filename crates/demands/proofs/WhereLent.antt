@@ -6,8 +6,8 @@ use mathlib.Core.Logic.{◌⊎◌, inl, inr}
 use mathlib.Core.Bool.{Bool, true, false}
 use mathlib.Core.List.{List, [], ◌∷◌, ◌++◌, append_assoc}
 use native.Mathlib.Omega.{arith}
+use Rattle.std.specs.Prelude.{Ok}
 use Rattle.bus.specs.declared.Request.{Request}
-use Rattle.bus.specs.declared.ReplyForm.TheVariants.{Good}
 use Rattle.bus.specs.Bus.{write_of, word_bytes}
 use Rattle.bus.specs.ReplyForm.{form_of}
 use Rattle.bus.specs.InForm.{Made, Says, Means}
@@ -41,11 +41,11 @@ heard_later (more x xs r rs left i h) later = more x xs r _ _ i (heard_later h l
 pub heard_one : {xs ys : List Exchange} {rs : List Reply} {r : Reply} → Heard xs rs [] → Heard ys (r ∷ []) [] → Heard (xs ++ ys) (rs ++ (r ∷ [])) []
 heard_one {r = r} h k = heard_both (heard_later h (r ∷ [])) k
 
-pub was_read : {q : Request} → Made q → (r : Reply) (w : ℕ) → form_of q r.kind r.bytes ≡ Good w → Heard (got q w ∷ []) (r ∷ []) []
+pub was_read : {q : Request} → Made q → (r : Reply) (w : ℕ) → form_of q r.kind r.bytes ≡ Ok w → Heard (got q w ∷ []) (r ∷ []) []
 unfolding Means Says
-was_read made r w e = more _ [] r [] [] ((form_means made r.kind r.bytes (Good w)).0 e) (none [])
+was_read made r w e = more _ [] r [] [] ((form_means made r.kind r.bytes (Ok w)).0 e) (none [])
 
-pub was_written : (address command : ℕ) (bs : List ℕ) (r : Reply) (w : ℕ) → form_of (write_of address command bs) r.kind r.bytes ≡ Good w
+pub was_written : (address command : ℕ) (bs : List ℕ) (r : Reply) (w : ℕ) → form_of (write_of address command bs) r.kind r.bytes ≡ Ok w
     → Heard (wrote (write_of address command bs) ∷ []) (r ∷ []) []
 was_written address command bs r w e = came_none address command bs (was_read (made_write address command bs) r w e)
 

@@ -1,13 +1,14 @@
 -- Demands 2 and 3, as types that a reviewer can read (what demand 1 asks of refusals is in Exactly.antt). Each speaks of the requests
 -- that were put out and of what was handed back last, whoever ran the session; by the bytes of the file's lines, the replies and the
 -- words read, without the guide's tree, a state or a definition that judges. Assumes nothing.
-use Rattle.std.specs.Prelude.{◌≡◌, ◌⊎◌, ◌↔◌, true, ℕ, zero, suc, ◌+◌, ◌*◌, ◌≤◌, ◌<◌, length, get_or, drop}
+use Rattle.std.specs.Prelude.{◌≡◌, ◌⊎◌, ◌↔◌, true, ℕ, zero, suc, ◌+◌, ◌*◌, ◌≤◌, ◌<◌, length, get_or, drop, Option, Some, None}
 use mathlib.Core.List.{List, [], ◌∷◌, ◌++◌, Memᴰ}
 use Rattle.counts.specs.Counts.{line_number, line_place, config_number}
 use Rattle.summary.specs.Answers.{told}
 use Rattle.image.specs.Says.{word}
 use Rattle.image.specs.Meets.{data_in, crc_bytes, id_digit, Meets}
 use Rattle.bus.specs.declared.Request.{Request}
+use Rattle.summary.specs.declared.Told.{Told}
 use Rattle.guide.specs.declared.Words.{Words}
 use Rattle.guide.specs.Terms.{Terms}
 use Rattle.guide.specs.Wire.{Wire, burn_to}
@@ -17,8 +18,6 @@ use Rattle.guide.specs.Course.{Config, Content, Now, waiting, over, Course}
 use Rattle.session.specs.declared.Settings.{Settings}
 use Rattle.session.specs.declared.Handed.{Handed}
 use Rattle.session.specs.declared.Answer.TheVariants.{BadState}
-use Rattle.session.specs.declared.Report.{Report}
-use Rattle.session.specs.declared.Report.TheVariants.{Waiting, Is}
 use Rattle.session.specs.Reports.{report_of}
 use Rattle.demands.specs.Headline.{lines_out, Answered, target_in, Headline}
 use Rattle.demands.specs.Runs.{sent, after}
@@ -36,9 +35,9 @@ abbrev pub content_in : Wire → {text : List ℕ} → Meets text → Content
 content_in W m = record { target = target_in m; lines = lines_out W (drop 4 m.values); configs = configs_by m m.meets.laid.configs 0 }
 
 -- what is reported: a verdict has no line and no place
-abbrev pub report_for : Now → Report
-report_for waiting = Waiting
-report_for (over m N) = Is (told m (line_number 0) (line_place 0) (config_number N))
+abbrev pub report_for : Now → Option Told
+report_for waiting = None
+report_for (over m N) = Some (told m (line_number 0) (line_place 0) (config_number N))
 
 -- by what is on the wire, the guide's terms, a text that meets the document, and the replies: of what was put out, and of what was handed
 -- back last

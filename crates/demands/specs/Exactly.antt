@@ -1,11 +1,10 @@
 -- When a reply is 15, and what a verdict leaves (document 01, "The session"), said on the values that are held and without the tests of
 -- Sound.antt. No promise cites this page: proofs/ shows each of these. Assumes nothing.
-use Rattle.std.specs.Prelude.{ℕ, ◌+◌, ◌*◌, ◌≤◌, ◌<◌, ◌≡◌, true, false, get_or}
+use Rattle.std.specs.Prelude.{ℕ, ◌+◌, ◌*◌, ◌≤◌, ◌<◌, ◌≡◌, true, false, get_or, Ok, Some}
 use mathlib.Core.List.{List, [], ◌∷◌, Memᴰ}
 use Rattle.counts.specs.declared.LineNumber.{LineNumber}
 use Rattle.counts.specs.Counts.{line_number, config_id, line_count}
 use Rattle.line.specs.declared.Line.{Line}
-use Rattle.line.specs.declared.NextLine.TheVariants.{Took}
 use Rattle.line.specs.Reading.{next_line}
 use Rattle.summary.specs.declared.Told.{Told}
 use Rattle.summary.specs.declared.Summary.{Summary}
@@ -14,7 +13,6 @@ use Rattle.summary.specs.Burn.{is_burn}
 use Rattle.bus.specs.declared.Request.{Request}
 use Rattle.bus.specs.Bus.{codes}
 use Rattle.bus.specs.ReplyForm.{form_of}
-use Rattle.bus.specs.declared.ReplyForm.TheVariants.{Good}
 use Rattle.guide.specs.declared.Verdict.{Verdict}
 use Rattle.guide.specs.Guide.{target_of}
 use Rattle.guide.specs.Matched.{Fits}
@@ -26,7 +24,6 @@ use Rattle.session.specs.declared.Awaited.{Awaited}
 use Rattle.session.specs.declared.Awaited.TheVariants.{RevisionRead, LineOut}
 use Rattle.session.specs.declared.Answer.{Answer}
 use Rattle.session.specs.declared.Answer.TheVariants.{Next, Over, BadState}
-use Rattle.session.specs.declared.Report.TheVariants.{Is}
 use Rattle.session.specs.Stages.{with_revision}
 use Rattle.session.specs.Reports.{report_of}
 use Rattle.session.specs.Reply.{reply_of}
@@ -80,9 +77,9 @@ pub data Due (s : Session) (word : ℕ) : Awaited → LineNumber → Type 0 wher
 
 -- the text from the held place is no write line, or the burn and not line n, or line n and not the burn
 pub data Unfit (text : List ℕ) (s : Session) (n : LineNumber) : Type 0 where
-  no_line : ((l : Line) (next : ℕ) → next_line n s.position.place text ≡ Took l next → ⊥) → Unfit text s n
-  early : (l : Line) (next : ℕ) → next_line n s.position.place text ≡ Took l next → is_burn l ≡ true → (n.0 ≡ s.file.lines → ⊥) → Unfit text s n
-  late : (l : Line) (next : ℕ) → next_line n s.position.place text ≡ Took l next → is_burn l ≡ false → n.0 ≡ s.file.lines → Unfit text s n
+  no_line : ((l : Line) (next : ℕ) → next_line n s.position.place text ≡ Ok (Some (l, next)) → ⊥) → Unfit text s n
+  early : (l : Line) (next : ℕ) → next_line n s.position.place text ≡ Ok (Some (l, next)) → is_burn l ≡ true → (n.0 ≡ s.file.lines → ⊥) → Unfit text s n
+  late : (l : Line) (next : ℕ) → next_line n s.position.place text ≡ Ok (Some (l, next)) → is_burn l ≡ false → n.0 ≡ s.file.lines → Unfit text s n
 
 -- ---- what a session is handed on as
 
@@ -104,7 +101,7 @@ module _ (text : List ℕ) (s : Session) (kind : ℕ) (bs : List ℕ) where
   -- 15 is given in two places and nowhere else
   pub data Fifteen (g : Awaited) : Type 0 where
     before : Spoiled s → Fifteen g
-    due : (word : ℕ) (n : LineNumber) → form_of s.hand kind bs ≡ Good word → Due s word g n → Unfit text s n → Fifteen g
+    due : (word : ℕ) (n : LineNumber) → form_of s.hand kind bs ≡ Ok word → Due s word g n → Unfit text s n → Fifteen g
 
   pub record FifteenExactly : Type 0 where
     pub only : handed.answer ≡ BadState → (g : Awaited) × (s.stage ≡ Open g) × Fifteen g
@@ -112,7 +109,7 @@ module _ (text : List ℕ) (s : Session) (kind : ℕ) (bs : List ℕ) where
     -- 15 leaves the state as given, and comes with a request of zeros
     pub leaves : handed.answer ≡ BadState → (handed.session ≡ s) × (handed.request ≡ zeros)
     -- it has no line, no place and no N
-    pub tells : handed.answer ≡ BadState → report_of handed.answer ≡ Is (plain 15)
+    pub tells : handed.answer ≡ BadState → report_of handed.answer ≡ Some (plain 15)
 
   -- a verdict ends the session and comes with a request of zeros; after it, the same verdict, the same state and a request of zeros
   pub record VerdictStands : Type 0 where
@@ -126,4 +123,4 @@ module _ (text : List ℕ) (s : Session) (kind : ℕ) (bs : List ℕ) where
 
 -- no report has the number 12 (request R-9)
 unfoldable pub NoReport12 : Answer → Type 0
-NoReport12 a = (t : Told) → report_of a ≡ Is t → t.number ≡ 12 → ⊥
+NoReport12 a = (t : Told) → report_of a ≡ Some t → t.number ≡ 12 → ⊥

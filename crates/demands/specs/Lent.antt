@@ -1,14 +1,12 @@
 -- A session begun with any summary, and lent any text at each call (document 02, R-3): what holds although the summary may be of another
 -- text. Every call ends and stays in bounds besides, since no promise has a premise. Assumes nothing.
-use Rattle.std.specs.Prelude.{◌≡◌, ◌⊎◌, ◌↔◌, true, cond, List, [], ◌∷◌, ◌++◌, ℕ, suc, ◌+◌, ◌*◌, ◌≤◌, ◌<◌, length}
+use Rattle.std.specs.Prelude.{◌≡◌, ◌⊎◌, ◌↔◌, true, cond, List, [], ◌∷◌, ◌++◌, ℕ, suc, ◌+◌, ◌*◌, ◌≤◌, ◌<◌, length, Ok, Some}
 use Rattle.counts.specs.declared.LineNumber.{LineNumber}
 use Rattle.line.specs.declared.Line.{Line}
-use Rattle.line.specs.declared.NextLine.TheVariants.{Took}
 use Rattle.line.specs.Reading.{next_line}
 use Rattle.summary.specs.declared.Summary.{Summary}
 use Rattle.summary.specs.Burn.{is_burn}
 use Rattle.bus.specs.declared.Request.{Request}
-use Rattle.bus.specs.declared.ReplyForm.TheVariants.{Good}
 use Rattle.bus.specs.Bus.{write_of, word_bytes}
 use Rattle.bus.specs.ReplyForm.{form_of}
 use Rattle.guide.specs.declared.Verdict.{Verdict}
@@ -88,12 +86,12 @@ pub record DueLine (s : Session) (c : Call) (q : Request) : Type 0 where
   pub awaited : Awaited
   pub stage : s.stage ≡ Open awaited
   pub word : ℕ
-  pub form : form_of s.hand c.reply.kind c.reply.bytes ≡ Good word
+  pub form : form_of s.hand c.reply.kind c.reply.bytes ≡ Ok word
   pub number : LineNumber
   pub due : Due s word awaited number
   pub line : Line
   pub next : ℕ
-  pub reads : next_line number s.position.place c.text ≡ Took line next
+  pub reads : next_line number s.position.place c.text ≡ Ok (Some (line, next))
   pub burn : (is_burn line ≡ true) ↔ (number.0 ≡ s.file.lines)
   pub goes : q ≡ line_request s.settings.address line
 

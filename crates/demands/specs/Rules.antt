@@ -1,17 +1,16 @@
 -- The house rules (document 02, R-13): the headline and the demands under the rule that the settings carry, verdict 28 by the rule, and
 -- what the other rule would have given. Assumes nothing.
-use Rattle.std.specs.Prelude.{◌≡◌, ◌⊎◌, ℕ, ◌+◌, ◌/◌, ◌≤◌, ◌<◌}
+use Rattle.std.specs.Prelude.{◌≡◌, ◌⊎◌, ℕ, ◌+◌, ◌/◌, ◌≤◌, ◌<◌, Option, Some}
 use mathlib.Core.List.{List, Memᴰ}
 use Rattle.summary.specs.Answers.{plain}
 use Rattle.image.specs.Meets.{Meets}
+use Rattle.summary.specs.declared.Told.{Told}
 use Rattle.guide.specs.declared.Words.{Words}
 use Rattle.guide.specs.Wire.{Wire, in_use}
 use Rattle.guide.specs.Plan.{Reply}
 use Rattle.guide.specs.Matched.{Heard, opening, Wants}
 use Rattle.session.specs.declared.Settings.{Settings}
 use Rattle.session.specs.declared.Handed.{Handed}
-use Rattle.session.specs.declared.Report.{Report}
-use Rattle.session.specs.declared.Report.TheVariants.{Is}
 use Rattle.session.specs.Terms.{keeping}
 use Rattle.session.specs.Reports.{report_of}
 use Rattle.session.specs.Begin.{begin_of}
@@ -39,7 +38,7 @@ pub record SessionTheorem (S : Settings) {text : List ℕ} (m : Meets text) (h :
 
 -- ---- what is reported last
 
-abbrev pub reported : List ℕ → Handed → List Reply → Report
+abbrev pub reported : List ℕ → Handed → List Reply → Option Told
 reported text h rs = report_of (after text h rs).answer
 
 -- ---- 28 PLACES by the rule: under rule 1, k is more than the counter, as document 01 has it; under rule 2, k + 2 is
@@ -61,8 +60,8 @@ pub record ShortOfPlaces (S : Settings) {text : List ℕ} (m : Meets text) (rs :
   pub few : TooFew m.meets.laid.configs read.counter S.rule
 
 pub record PlacesExactly (S : Settings) {text : List ℕ} (m : Meets text) (h : Handed) (rs : List Reply) : Type 0 where
-  pub only : reported text h rs ≡ Is (plain 28) → ShortOfPlaces S m rs
-  pub when : ShortOfPlaces S m rs → reported text h rs ≡ Is (plain 28)
+  pub only : reported text h rs ≡ Some (plain 28) → ShortOfPlaces S m rs
+  pub when : ShortOfPlaces S m rs → reported text h rs ≡ Some (plain 28)
 
 -- ---- the other rule, with the same text, replies and other settings, whatever they are, by the one operation
 
@@ -79,6 +78,6 @@ module _ (S : Settings) (text : List ℕ) (rs : List Reply) where
 
   pub record RulesAgree : Type 0 where
     -- rule 2 puts out and reports what rule 1 does, or it ends with 28
-    pub agree : SameUnderBoth ⊎ (reported text (under 2) rs ≡ Is (plain 28))
+    pub agree : SameUnderBoth ⊎ (reported text (under 2) rs ≡ Some (plain 28))
     -- so what passes under rule 2 passes under rule 1
-    pub passes : reported text (under 2) rs ≡ Is (plain 0) → SameUnderBoth × (reported text (under 1) rs ≡ Is (plain 0))
+    pub passes : reported text (under 2) rs ≡ Some (plain 0) → SameUnderBoth × (reported text (under 1) rs ≡ Some (plain 0))

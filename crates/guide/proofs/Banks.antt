@@ -2,7 +2,7 @@
 use mathlib.Core.Path.{◌≡◌, refl, sym, ◌∙◌}
 use mathlib.Core.Bool.{Bool, true, false, false≢true}
 use Prim.Native.Nat.{ℕ, zero, suc, ◌+◌, ◌*◌, ◌/◌, ◌%◌, ◌^◌, ◌≤◌, ◌<◌}
-use native.Mathlib.Nat.{zero-div, pow-zero, pow-succ', one-le-pow, mul_comm, div-div-eq-div-mul}
+use native.Mathlib.Nat.{zero-div, pow-zero, pow-succ', one-le-pow, div-div-eq-div-mul}
 use native.Mathlib.Numerals.{add-one}
 use native.Mathlib.Omega.{arith}
 use lib.Dec.{eqb, ltb}
@@ -39,18 +39,22 @@ unfolding reports_in
 reports_below zero b h = absurd (let y : ⊥ = omega arith in y)
 reports_below (suc k) b h = split (eqb k b) (λ e. rw e) (λ e. rw e (reports_below k b (omega (arith, eqb-false k b e))))
 
-pub reports_on : (n : ℕ) (b : Bank) → reports_in n b ≡ false → (n ≡ b.0 → ⊥) → reports_in (n + 1) b ≡ false
-unfolding reports_in
-reports_on n b e h = rw (add-one, ne_eqb n b.0 h) e
-
 reports_from : (k b : ℕ) → k ≤ b → reports_in k (bank b) ≡ false
 unfolding reports_in
 reports_from zero b h = refl
 reports_from (suc k) b h = rw (ne_eqb k b (λ e. omega arith)) (reports_from k b (omega arith))
 
--- one bank less of the register
-pub above_on : (w b : ℕ) → w / 16 ^ b / 16 ≡ w / 16 ^ (b + 1)
-above_on w b = rw (add-one, pow-succ' 16 b, mul_comm 16 (16 ^ b), div-div-eq-div-mul w (16 ^ b) 16)
+-- a bank is four bits
+four_bits : (b : ℕ) → 2 ^ (4 * b) ≡ 16 ^ b
+four_bits zero = refl
+four_bits (suc b) =
+    let four : 4 * suc b ≡ suc (suc (suc (suc (4 * b)))) = omega arith in
+    rw (four, pow-succ' 2 (suc (suc (suc (4 * b)))), pow-succ' 2 (suc (suc (4 * b))), pow-succ' 2 (suc (4 * b)), pow-succ' 2 (4 * b), pow-succ' 16 b)
+    (omega (arith, four_bits b))
+
+pub bank_shifted : (w : ℕ) (b : Bank) → w / 2 ^ (4 * b.0) % 16 ≡ bank_in w b
+unfolding bank_in
+bank_shifted w b = rw (four_bits b.0) refl
 
 module _ (k word : ℕ) where
   pub are_right : RightBanks k word → banks_right k word ≡ true

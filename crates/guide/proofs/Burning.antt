@@ -7,11 +7,11 @@ use Prim.Native.Nat.{ℕ, suc, ◌+◌, ◌≤◌}
 use native.Mathlib.Omega.{arith}
 use lib.ListN.{length}
 use borrow.Author.Tests.{eq-eqb, ne_eqb}
+use Rattle.std.specs.Prelude.{Result, Ok, Err}
 use Rattle.line.specs.declared.Line.{Line}
 use Rattle.summary.specs.declared.Summary.{Summary}
 use Rattle.bus.specs.declared.Request.{Request}
-use Rattle.bus.specs.declared.ReplyForm.{ReplyForm}
-use Rattle.bus.specs.declared.ReplyForm.TheVariants.{Unanswered, Misshapen, Miscoded, Good}
+use Rattle.bus.specs.declared.Misreply.{Misreply}
 use Rattle.bus.specs.ReplyForm.{form_of}
 use Rattle.guide.specs.Plan.{Reply, Mark, other, file_line, Asked, Plan, requests}
 use Rattle.guide.specs.Requests.{line_request}
@@ -66,7 +66,7 @@ no_form : {A : Type 0} {q : Asked} {qs : List Asked} → AllInForm (q ∷ qs) []
 no_form f = elim f [ ]
 
 form_on : {q : Asked} {qs : List Asked} {r : Reply} {rs : List Reply} → AllInForm (q ∷ qs) (r ∷ rs)
-    → (w : ℕ) × (form_of q.request r.kind r.bytes ≡ Good w) × AllInForm qs rs
+    → (w : ℕ) × (form_of q.request r.kind r.bytes ≡ Ok w) × AllInForm qs rs
 form_on (more _ _ _ _ w e f) = (w, e, f)
 
 module _ (n : ℕ) (m : Mark) (q : Request) (p : Plan) (unlike : is_burn_mark n m ≡ false) where
@@ -82,12 +82,10 @@ module _ (n : ℕ) (m : Mark) (q : Request) (p : Plan) (unlike : is_burn_mark n 
 -- ---- step 3, from line i on, before a rest without write lines
 
 module _ (n address : ℕ) (rest : Plan) (plain : (rs : List Reply) → burns_in n (requests rest rs) ≡ 0) where
-  heard_none : (h : ReplyForm) (rs : List Reply) → burns_in n (requests (hear h (λ _. rest)) rs) ≡ 0
+  heard_none : (h : Result ℕ Misreply) (rs : List Reply) → burns_in n (requests (hear h (λ _. rest)) rs) ≡ 0
   unfolding hear requests burns_in
-  heard_none Unanswered rs = refl
-  heard_none Misshapen rs = refl
-  heard_none Miscoded rs = refl
-  heard_none (Good w) rs = plain rs
+  heard_none (Err m) rs = refl
+  heard_none (Ok w) rs = plain rs
 
   abbrev out : ℕ → List Line → List Reply → List Asked
   out i ls rs = requests (lines address i ls rest) rs

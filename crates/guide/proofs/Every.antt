@@ -9,17 +9,16 @@ use Prim.Native.Nat.{ℕ, zero, suc, ◌+◌, ◌*◌, ◌≤◌, ◌<◌}
 use native.Mathlib.Omega.{arith}
 use lib.Dec.{eqb}
 use lib.ListN.{length, get_or}
+use Rattle.std.specs.Prelude.{Result, Ok, Err}
 use Rattle.line.specs.Digits.{digit_val, values_of}
 use Rattle.line.specs.Reading.{line_of}
 use Rattle.summary.specs.declared.Summary.{Summary}
 use Rattle.bus.specs.declared.Request.{Request}
-use Rattle.bus.specs.declared.ReplyForm.{ReplyForm}
-use Rattle.bus.specs.declared.ReplyForm.TheVariants.{Unanswered, Misshapen, Miscoded, Good}
+use Rattle.bus.specs.declared.Misreply.{Misreply}
 use Rattle.bus.specs.Bus.{write_of, word_bytes}
 use Rattle.bus.specs.ReplyForm.{form_of}
+use Rattle.guide.specs.declared.Reason.{Reason}
 use Rattle.guide.specs.declared.Verdict.{Verdict}
-use Rattle.guide.specs.declared.Fit.{Fit}
-use Rattle.guide.specs.declared.Fit.TheVariants.{Matched, Fails}
 use Rattle.guide.specs.declared.Polled.{Polled}
 use Rattle.guide.specs.declared.Polled.TheVariants.{Busy, Passed, Failed}
 use Rattle.guide.specs.Judged.{polled_of, banks_right}
@@ -72,12 +71,10 @@ module _ {P : Asked → Type 0} where
   up (suc more) h (asks a f) = asks a λ r. up more (omega arith) (f r)
   up more h ends = ends
 
-  hear_every : {most : ℕ} (h : ReplyForm) (next : ℕ → Plan) → ((w : ℕ) → Every P most (next w)) → Every P most (hear h next)
+  hear_every : {most : ℕ} (h : Result ℕ Misreply) (next : ℕ → Plan) → ((w : ℕ) → Every P most (next w)) → Every P most (hear h next)
   unfolding hear
-  hear_every Unanswered next f = ends
-  hear_every Misshapen next f = ends
-  hear_every Miscoded next f = ends
-  hear_every (Good w) next f = f w
+  hear_every (Err m) next f = ends
+  hear_every (Ok w) next f = f w
 
   put_every : {most : ℕ} (m : Mark) (q : Request) (next : ℕ → Plan) → P (asked m q) → ((w : ℕ) → Every P most (next w))
       → Every P (suc most) (put m q next)
@@ -87,10 +84,10 @@ module _ {P : Asked → Type 0} where
   cond_every true f g = f
   cond_every false f g = g
 
-  gate_every : {most : ℕ} (x : Fit) {p : Plan} → Every P most p → Every P most (gate x p)
+  gate_every : {most : ℕ} (x : Result (Unit {0}) Reason) {p : Plan} → Every P most p → Every P most (gate x p)
   unfolding gate
-  gate_every Matched f = search over
-  gate_every (Fails v) f = search over
+  gate_every (Ok tt) f = search over
+  gate_every (Err v) f = search over
 
   polled_every : {most : ℕ} (x : Polled) {p p' : Plan} → Every P most p → Every P most p' → Every P most (polled x p p')
   unfolding polled

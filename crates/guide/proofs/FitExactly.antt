@@ -5,17 +5,14 @@ use Prim.Native.Nat.{ℕ, suc, ◌+◌, ◌/◌, ◌≤◌, ◌<◌}
 use native.Mathlib.Omega.{arith}
 use lib.Dec.{eqb, ltb}
 use borrow.Author.Tests.{ltb-true, lt-ltb, eqb-false, ne_eqb}
+use Rattle.std.specs.Prelude.{Option, Some, None, Result, Ok, Err}
 use Rattle.counts.specs.declared.Kind.{Kind}
-use Rattle.counts.specs.declared.KindFound.{KindFound}
-use Rattle.counts.specs.declared.KindFound.TheVariants.{Is, Unknown}
 use Rattle.promise.specs.First.{First}
 use Rattle.promise.proofs.Basics.{split}
 use Rattle.promise.proofs.First.{NoneBefore, none_next, first_one}
 use Rattle.guide.specs.declared.Reason.{Reason}
 use Rattle.guide.specs.declared.Target.{Target}
 use Rattle.guide.specs.declared.Words.{Words}
-use Rattle.guide.specs.declared.Fit.{Fit}
-use Rattle.guide.specs.declared.Fit.TheVariants.{Matched, Fails}
 use Rattle.guide.specs.Numbers.{reason_number}
 use Rattle.guide.specs.Judged.{kind_wanted, same_kind, fit_kind, fit_of}
 use Rattle.guide.specs.Verdicts.{FitTable, COUNTER, IDENTITY, FLAG, OLD, KIND, PLACES}
@@ -25,18 +22,18 @@ module _ (target : Target) (kept : ℕ) (read : Words) where
   abbrev Table : ℕ → ℕ → Type 0
   Table = FitTable target kept read
 
-  abbrev wanted : KindFound
+  abbrev wanted : Option Kind
   wanted = kind_wanted read.counter read.flag
 
   -- ---- by its number alone: the test that a row fails
 
-  abbrev known : KindFound → Bool
-  known Unknown = false
-  known (Is kind) = true
+  abbrev known : Option Kind → Bool
+  known None = false
+  known (Some kind) = true
 
-  abbrev same_as : KindFound → Bool
-  same_as Unknown = false
-  same_as (Is kind) = same_kind target.kind kind
+  abbrev same_as : Option Kind → Bool
+  same_as None = false
+  same_as (Some kind) = same_kind target.kind kind
 
   unfoldable passes : ℕ → Bool
   passes m =
@@ -53,9 +50,9 @@ module _ (target : Target) (kept : ℕ) (read : Words) where
   fails (IDENTITY f) = ne_eqb read.identity target.identity f
   fails (FLAG f) = by wanted refl
     where
-      by : (x : KindFound) → wanted ≡ x → known x ≡ false
-      by Unknown e = refl
-      by (Is kind) e = absurd (f kind (is_wants kind read.counter read.flag e))
+      by : (x : Option Kind) → wanted ≡ x → known x ≡ false
+      by None e = refl
+      by (Some kind) e = absurd (f kind (is_wants kind read.counter read.flag e))
   fails (OLD h) = rw (lt-ltb (read.revision / 16777216) 6 h)
   fails (KIND kind w f) =
       rw (wants_is w)
@@ -78,15 +75,15 @@ module _ (target : Target) (kept : ℕ) (read : Words) where
 
   -- ---- a judgement tells the first of its table, or that there is none
 
-  Tells : Fit → Type 0
-  Tells Matched = (m N : ℕ) → Table m N → ⊥
-  Tells (Fails r) = First Table (reason_number r) 0
+  Tells : Result (Unit {0}) Reason → Type 0
+  Tells (Ok tt) = (m N : ℕ) → Table m N → ⊥
+  Tells (Err r) = First Table (reason_number r) 0
 
-  kind_tells : (x : KindFound) → wanted ≡ x → NoneBefore Table 25 → Tells (fit_kind target kept read x)
+  kind_tells : (x : Option Kind) → wanted ≡ x → NoneBefore Table 25 → Tells (fit_kind target kept read x)
   unfolding fit_kind Tells passes
-  kind_tells Unknown e before =
-      record { applies = FLAG (λ kind w. let z : Unknown ≡ Is kind = sym e ∙ wants_is w in let o : ◌≡◌ {A = ℕ} 0 1 = cc in omega arith); none = before }
-  kind_tells (Is kind) e before =
+  kind_tells None e before =
+      record { applies = FLAG (λ kind w. let z : None ≡ Some kind = sym e ∙ wants_is w in let o : ◌≡◌ {A = ℕ} 0 1 = cc in omega arith); none = before }
+  kind_tells (Some kind) e before =
       let flag = passed before (rw e) in
       split (ltb (read.revision / 16777216) 6) (λ a. rw a (record { applies = OLD (ltb-true (read.revision / 16777216) 6 a); none = flag }))
       (λ a. let old = passed flag (rw a) in
@@ -108,22 +105,22 @@ module _ (target : Target) (kept : ℕ) (read : Words) where
       split (eqb read.identity target.identity) (λ b. rw (a, b) (kind_tells wanted refl (passed counted b)))
       (λ b. rw (a, b) (record { applies = IDENTITY (eqb-false read.identity target.identity b); none = counted })))
 
-  pub fit_first : (r : Reason) → fit_of target kept read ≡ Fails r → First Table (reason_number r) 0
+  pub fit_first : (r : Reason) → fit_of target kept read ≡ Err r → First Table (reason_number r) 0
   unfolding Tells
   fit_first r e = subst Tells e fit_tells
 
-  pub fit_none : fit_of target kept read ≡ Matched → (m N : ℕ) → Table m N → ⊥
+  pub fit_none : fit_of target kept read ≡ Ok tt → (m N : ℕ) → Table m N → ⊥
   unfolding Tells
   fit_none e = subst Tells e fit_tells
 
   -- ---- and the first is what fails
 
-  pub fit_is : {m N : ℕ} → First Table m N → (r : Reason) × (fit_of target kept read ≡ Fails r) × (reason_number r ≡ m) × (0 ≡ N)
+  pub fit_is : {m N : ℕ} → First Table m N → (r : Reason) × (fit_of target kept read ≡ Err r) × (reason_number r ≡ m) × (0 ≡ N)
   unfolding Tells
   fit_is {m} {N} f = by (fit_of target kept read) refl
     where
-      by : (x : Fit) → fit_of target kept read ≡ x → (r : Reason) × (x ≡ Fails r) × (reason_number r ≡ m) × (0 ≡ N)
-      by Matched e = absurd (subst Tells e fit_tells m N f.applies)
-      by (Fails r) e =
+      by : (x : Result (Unit {0}) Reason) → fit_of target kept read ≡ x → (r : Reason) × (x ≡ Err r) × (reason_number r ≡ m) × (0 ≡ N)
+      by (Ok tt) e = absurd (subst Tells e fit_tells m N f.applies)
+      by (Err r) e =
           let o = first_one (λ i a b x y. (turns x).2 ∙ sym (turns y).2) (fit_first r e) f in
           (r, refl, o.0, o.1)

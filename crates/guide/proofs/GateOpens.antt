@@ -6,7 +6,8 @@ use native.Mathlib.Omega.{arith}
 use lib.ListN.{length}
 use Rattle.line.specs.declared.Line.{Line}
 use Rattle.summary.specs.declared.Summary.{Summary}
-use Rattle.guide.specs.declared.Fit.{Fit}
+use Rattle.std.specs.Prelude.{Result}
+use Rattle.guide.specs.declared.Reason.{Reason}
 use Rattle.guide.specs.Plan.{Reply, Asked, Plan, requests, bare}
 use Rattle.guide.specs.Guide.{gate, lines, guide, target_of}
 use Rattle.guide.specs.Matched.{opening, Matched, asked_in}
@@ -41,7 +42,7 @@ module _ (T : Terms) (file : Summary) (ls : List Line) (rs : List Reply) where
         before = asks_of o.leads;
         list =
             leads_requests o.leads m.came
-            ∙ ap (λ (x : Fit). asks_of o.leads ++ requests (gate x gated) m.left)
+            ∙ ap (λ (x : Result (Unit {0}) Reason). asks_of o.leads ++ requests (gate x gated) m.left)
             ((judged_exactly (target_of file) T.kept m.read).passes m.fits);
         asked = asks_are o.leads;
         plain = o.plain;

@@ -3,10 +3,10 @@ use mathlib.Core.Path.{◌≡◌, refl, sym, ap, ◌∙◌}
 use mathlib.Core.Logic.{◌⊎◌, inl, inr}
 use mathlib.Core.List.{List, [], ◌∷◌, ◌++◌, append-nil}
 use Prim.Native.Nat.{ℕ, ◌≤◌}
+use Rattle.std.specs.Prelude.{Result, Ok, Err}
 use Rattle.summary.specs.declared.Summary.{Summary}
 use Rattle.bus.specs.declared.Request.{Request}
-use Rattle.guide.specs.declared.Fit.{Fit}
-use Rattle.guide.specs.declared.Fit.TheVariants as fit
+use Rattle.guide.specs.declared.Reason.{Reason}
 use Rattle.guide.specs.declared.Words.{Words}
 use Rattle.guide.specs.Terms.{Terms}
 use Rattle.guide.specs.Judged.{fit_of}
@@ -56,10 +56,10 @@ module _ (T : Terms) (file : Summary) (text : List ℕ) (few : file.configs ≤ 
       λ captured read left h. by captured read left h (fit_of (target_of file) T.kept read) refl
     where
       by : (captured : ℕ) (read : Words) (left : List Reply) → Heard (opening T.address T.wanted captured read) rs left
-          → (x : Fit) → fit_of (target_of file) T.kept read ≡ x → Matched T (target_of file) rs ⊎ Begins12
-      by captured read left h fit.Matched e =
+          → (x : Result (Unit {0}) Reason) → fit_of (target_of file) T.kept read ≡ x → Matched T (target_of file) rs ⊎ Begins12
+      by captured read left h (Ok tt) e =
           inl (record { captured = captured; read = read; left = left; came = h; fits = (judged_exactly (target_of file) T.kept read).matches e })
-      by captured read left h (fit.Fails r) e =
+      by captured read left h (Err r) e =
           let j = unfit (said captured read) _ 0 (fit_first (target_of file) T.kept read r e) in
           let whole = (course_so T file text few rs (judged _ left _ 0 h j)).asks in
           inr (captured, read, [], whole ∙ sym (append-nil out))

@@ -6,14 +6,12 @@ use Prim.Native.Nat.{ℕ, ◌+◌, ◌/◌, ◌≤◌}
 use native.Mathlib.Omega.{arith}
 use lib.Dec.{eqb, ltb}
 use borrow.Author.Tests.{ltb-true, ltb-false, lt-ltb, le-ltb, eqb-true, eq-eqb, ne_eqb}
+use Rattle.std.specs.Prelude.{Option, Some, None, Result, Ok, Err}
 use Rattle.counts.specs.declared.Kind.{Kind}
 use Rattle.counts.specs.declared.Kind.TheVariants.{Legacy, Production}
-use Rattle.counts.specs.declared.KindFound.{KindFound}
-use Rattle.counts.specs.declared.KindFound.TheVariants.{Is, Unknown}
 use Rattle.promise.proofs.Basics.{split}
 use Rattle.guide.specs.declared.Reason.{Reason}
 use Rattle.guide.specs.declared.Reason.TheVariants.{Counter, Identity, Flag, Old, OtherKind, Places}
-use Rattle.guide.specs.declared.Fit.TheVariants.{Matched, Fails}
 use Rattle.guide.specs.Judged.{kind_wanted, same_kind, fit_kind, fit_of}
 use Rattle.guide.specs.Matched.{Wants, legacy, production, Fits}
 use Rattle.guide.specs.Statements.{JudgedExactly}
@@ -22,7 +20,7 @@ use Rattle.guide.specs.declared.Target.{Target}
 
 -- ---- the kind that counter and flag want
 
-pub wants_is : {kind : Kind} {counter flag : ℕ} → Wants counter flag kind → kind_wanted counter flag ≡ Is kind
+pub wants_is : {kind : Kind} {counter flag : ℕ} → Wants counter flag kind → kind_wanted counter flag ≡ Some kind
 unfolding kind_wanted
 wants_is {counter = counter} (legacy e h) = simp (e, lt-ltb counter 28 h)
 wants_is (production (inl f)) = rw f
@@ -30,10 +28,10 @@ wants_is {flag = flag} (production (inr f)) =
     split (eqb flag 0) (λ g. simp (f, g, ne_eqb flag 0xFFFE0001 (λ x. omega (arith, eqb-true flag 0 g))))
     (λ g. split (eqb flag 0xFFFE0001) (λ h. rw (f, g, h)) (λ h. rw (f, g, h)))
 
-none_wanted : {A : Type 0} (kind : Kind) → Unknown ≡ Is kind → A
+none_wanted : {A : Type 0} (kind : Kind) → None ≡ Some kind → A
 none_wanted kind e = let z : ◌≡◌ {A = ℕ} 0 1 = cc in absurd (let y : ⊥ = omega arith in y)
 
-pub is_wants : (kind : Kind) (counter flag : ℕ) → kind_wanted counter flag ≡ Is kind → Wants counter flag kind
+pub is_wants : (kind : Kind) (counter flag : ℕ) → kind_wanted counter flag ≡ Some kind → Wants counter flag kind
 unfolding kind_wanted
 is_wants kind counter flag e =
     split (eqb flag 0)
@@ -47,7 +45,7 @@ is_wants kind counter flag e =
 
 -- ---- the judgement
 
-fails : {A : Type 0} (r : Reason) → Fails r ≡ Matched → A
+fails : {A : Type 0} (r : Reason) → ◌≡◌ {A = Result (Unit {0}) Reason} (Err r) (Ok tt) → A
 fails v e = let z : ◌≡◌ {A = ℕ} 0 1 = cc in absurd (let y : ⊥ = omega arith in y)
 
 pub same_kind_lem : (kind : Kind) → same_kind kind kind ≡ true
@@ -63,7 +61,7 @@ kind_same Production Legacy e = absurd (false≢true e)
 kind_same Production Production e = refl
 
 module _ (target : Target) (kept : ℕ) (read : Words) where
-  passing : Fits target kept read → fit_of target kept read ≡ Matched
+  passing : Fits target kept read → fit_of target kept read ≡ Ok tt
   unfolding fit_of fit_kind
   passing f =
       simp (
@@ -75,20 +73,20 @@ module _ (target : Target) (kept : ℕ) (read : Words) where
         le-ltb read.counter (target.configs + kept) f.places,
       )
 
-  abbrev Known : KindFound → Type 0
-  Known x = (6 ≤ read.revision / 16777216) × (x ≡ Is target.kind) × (target.configs + kept ≤ read.counter)
+  abbrev Known : Option Kind → Type 0
+  Known x = (6 ≤ read.revision / 16777216) × (x ≡ Some target.kind) × (target.configs + kept ≤ read.counter)
 
-  kind_known : (x : KindFound) → fit_kind target kept read x ≡ Matched → Known x
+  kind_known : (x : Option Kind) → fit_kind target kept read x ≡ Ok tt → Known x
   unfolding fit_kind
-  kind_known Unknown e = fails Flag e
-  kind_known (Is wanted) e =
+  kind_known None e = fails Flag e
+  kind_known (Some wanted) e =
       split (ltb (read.revision / 16777216) 6) (λ a. fails Old (simp a at e))
       (λ a. split (same_kind target.kind wanted)
       (λ b. split (ltb read.counter (target.configs + kept)) (λ c. fails Places (simp (a, b, c) at e))
-      (λ c. (ltb-false (read.revision / 16777216) 6 a, ap Is (kind_same target.kind wanted b), ltb-false read.counter (target.configs + kept) c)))
+      (λ c. (ltb-false (read.revision / 16777216) 6 a, ap Some (kind_same target.kind wanted b), ltb-false read.counter (target.configs + kept) c)))
       (λ b. fails OtherKind (simp (a, b) at e)))
 
-  matching : fit_of target kept read ≡ Matched → Fits target kept read
+  matching : fit_of target kept read ≡ Ok tt → Fits target kept read
   unfolding fit_of
   matching e =
       split (ltb 28 read.counter) (λ a. fails Counter (simp a at e))

@@ -22,8 +22,8 @@ one-kind_wanted counter flag = one_answer _
 pub one-Target-of : (file : Summary) → One (λ r. r ≡ target_of file)
 one-Target-of file = one_answer _
 
-pub one-Fit-of : (target : Target) (kept : ℕ) (read : Words) → One (λ r. r ≡ fit_of target kept read)
-one-Fit-of target kept read = one_answer _
+pub one-Target-fit : (self : Target) (kept : ℕ) (read : Words) → One (λ r. r ≡ fit_of self kept read)
+one-Target-fit self kept read = one_answer _
 
 pub one-Polled-of : (status : ℕ) → One (λ r. r ≡ polled_of status)
 one-Polled-of status = one_answer _

@@ -3,8 +3,9 @@ use mathlib.Core.Path.{◌≡◌, refl}
 use mathlib.Core.Bool.{Bool, true, false, cond}
 use mathlib.Core.List.{[]}
 use Prim.Native.Nat.{ℕ}
+use Rattle.std.specs.Prelude.{Result}
 use Rattle.summary.specs.declared.Summary.{Summary}
-use Rattle.guide.specs.declared.Fit.{Fit}
+use Rattle.guide.specs.declared.Reason.{Reason}
 use Rattle.guide.specs.Judged.{fit_of}
 use Rattle.guide.specs.Plan.{Plan}
 use Rattle.guide.specs.Guide.{gate, step1, step2, target_of}
@@ -15,7 +16,7 @@ use Rattle.guide.specs.Terms.{Terms}
 use Rattle.guide.specs.declared.Words.{Words}
 
 module _ (T : Terms) (file : Summary) where
-  abbrev pub fit_for : Words → Fit
+  abbrev pub fit_for : Words → Result (Unit {0}) Reason
   fit_for read = fit_of (target_of file) T.kept read
 
   -- both steps, or the second alone

@@ -4,10 +4,10 @@ use mathlib.Core.Logic.{◌⊎◌, inl, inr, ⊎_elim}
 use mathlib.Core.List.{List}
 use Prim.Native.Nat.{ℕ, ◌+◌, ◌≤◌, ◌<◌}
 use native.Mathlib.Omega.{arith}
+use Rattle.std.specs.Prelude.{Result, Ok, Err}
 use Rattle.promise.specs.First.{First}
 use Rattle.bus.specs.declared.Request.{Request}
-use Rattle.guide.specs.declared.Fit.{Fit}
-use Rattle.guide.specs.declared.Fit.TheVariants.{Matched, Fails}
+use Rattle.guide.specs.declared.Reason.{Reason}
 use Rattle.guide.specs.declared.Target.{Target}
 use Rattle.guide.specs.declared.Words.{Words}
 use Rattle.guide.specs.Terms.{Terms}
@@ -36,9 +36,9 @@ module _ (target : Target) (kept : ℕ) (read : Words) where
   pub short_passes : {N : ℕ} → First (FitTable target kept read) 28 N → Fits asks_none 0 read × (read.counter < target.configs + kept)
   short_passes {N} f = (by (fit_of asks_none 0 read) refl, few (lower f.applies))
     where
-      by : (x : Fit) → fit_of asks_none 0 read ≡ x → Fits asks_none 0 read
-      by Matched e = (judged_exactly asks_none 0 read).matches e
-      by (Fails r) e = let x = raise (fit_first asks_none 0 read r e).applies in absurd (f.none _ _ x.0 x.1)
+      by : (x : Result (Unit {0}) Reason) → fit_of asks_none 0 read ≡ x → Fits asks_none 0 read
+      by (Ok tt) e = (judged_exactly asks_none 0 read).matches e
+      by (Err r) e = let x = raise (fit_first asks_none 0 read r e).applies in absurd (f.none _ _ x.0 x.1)
 
       few : FitTable asks_none 0 read 28 N ⊎ ((28 ≤ 28) × (read.counter < target.configs + kept)) → read.counter < target.configs + kept
       few (inl row) = absurd (let y : ⊥ = omega (arith, (raise row).0) in y)

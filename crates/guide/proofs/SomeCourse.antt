@@ -8,12 +8,12 @@ use native.Mathlib.Omega.{arith}
 use lib.Dec.{eqb}
 use lib.ListN.{length}
 use borrow.Author.Tests.{eqb-true, eqb-false}
+use Rattle.std.specs.Prelude.{Result, Ok, Err}
 use Rattle.promise.proofs.Basics.{split}
 use Rattle.summary.specs.declared.Summary.{Summary}
 use Rattle.bus.specs.declared.Request.{Request}
 use Rattle.bus.specs.InForm.{register}
-use Rattle.guide.specs.declared.Fit.{Fit}
-use Rattle.guide.specs.declared.Fit.TheVariants as fit
+use Rattle.guide.specs.declared.Reason.{Reason}
 use Rattle.guide.specs.declared.Words.{Words}
 use Rattle.guide.specs.Terms.{Terms}
 use Rattle.guide.specs.Judged.{fit_of, banks_right}
@@ -108,7 +108,7 @@ module _ (T : Terms) (file : Summary) (text : List ℕ) (some : 1 ≤ T.limit) (
       (λ captured read r1 h1. by captured read r1 h1 (fit_of (target_of file) T.kept read) refl)
     where
       by : (captured : ℕ) (read : Words) (r1 : List Reply) → Heard (opened T c (said captured read [] 0 0)) rs r1
-          → (x : Fit) → fit_of (target_of file) T.kept read ≡ x → Some
-      by captured read r1 h1 fit.Matched e = fitted captured read r1 h1 ((judged_exactly (target_of file) T.kept read).matches e)
-      by captured read r1 h1 (fit.Fails r) e =
+          → (x : Result (Unit {0}) Reason) → fit_of (target_of file) T.kept read ≡ x → Some
+      by captured read r1 h1 (Ok tt) e = fitted captured read r1 h1 ((judged_exactly (target_of file) T.kept read).matches e)
+      by captured read r1 h1 (Err r) e =
           (_, _, judged _ r1 _ 0 h1 (unfit (said captured read [] 0 0) _ 0 (fit_first (target_of file) T.kept read r e)))

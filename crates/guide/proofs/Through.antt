@@ -3,8 +3,9 @@
 use mathlib.Core.Path.{◌≡◌, refl, ap, ◌∙◌}
 use mathlib.Core.List.{List, [], ◌∷◌, ◌++◌}
 use Prim.Native.Nat.{ℕ}
+use Rattle.std.specs.Prelude.{Result}
 use Rattle.bus.specs.declared.Request.{Request}
-use Rattle.bus.specs.declared.ReplyForm.{ReplyForm}
+use Rattle.bus.specs.declared.Misreply.{Misreply}
 use Rattle.bus.proofs.FormMeans.{good_is}
 use Rattle.guide.specs.Plan.{Reply, Mark, Asked, Plan, requests, verdict, bare}
 use Rattle.guide.specs.Guide.{hear, put}
@@ -51,7 +52,7 @@ module _ {p' : Plan} {left : List Reply} where
   pub leads_verdict : {p : Plan} {xs : List Exchange} {rs : List Reply} → Leads p xs p' → Heard xs rs left → verdict p rs ≡ verdict p' left
   unfolding verdict hear
   leads_verdict arrived (none _) = refl
-  leads_verdict (on next l) (more _ _ r rest _ i h) = ap (λ (f : ReplyForm). verdict (hear f next) rest) (good_is i) ∙ leads_verdict l h
+  leads_verdict (on next l) (more _ _ r rest _ i h) = ap (λ (f : Result ℕ Misreply). verdict (hear f next) rest) (good_is i) ∙ leads_verdict l h
 
   pub leads_requests : {p : Plan} {xs : List Exchange} {rs : List Reply} (l : Leads p xs p') → Heard xs rs left
       → requests p rs ≡ asks_of l ++ requests p' left

@@ -5,9 +5,9 @@ use mathlib.Core.List.{List, [], ◌∷◌}
 use Prim.Native.Nat.{ℕ}
 use lib.Dec.{eqb, ltb}
 use lib.ListN.{length}
+use Rattle.std.specs.Prelude.{Ok}
 use Rattle.promise.proofs.Basics.{split}
 use Rattle.bus.specs.declared.Request.{Request}
-use Rattle.bus.specs.declared.ReplyForm.TheVariants.{Good}
 use Rattle.bus.specs.ReplyForm.{done_form, form_of}
 use Rattle.bus.specs.Bus.{framed, write_of}
 use Rattle.bus.specs.InForm.{Made, write}
@@ -16,7 +16,7 @@ use Rattle.guide.specs.Plan.{Reply}
 use Rattle.guide.specs.Matched.{got, Heard, more}
 
 -- a write is answered with no word
-wrote_none : (q : Request) (w kind : ℕ) (bs : List ℕ) → q.reads ≡ false → form_of q kind bs ≡ Good w → w ≡ 0
+wrote_none : (q : Request) (w kind : ℕ) (bs : List ℕ) → q.reads ≡ false → form_of q kind bs ≡ Ok w → w ≡ 0
 unfolding form_of done_form
 wrote_none q w kind bs e f =
     split (eqb kind 0) (λ a. cc (simp a at f))

@@ -1,6 +1,6 @@
 -- The guide: the requests and what each reply leads to, steps 1 to 6 of document 01 ("The session") in its order, each before
 -- the steps that follow it. From the file, the settings and the replies alone. Assumes nothing.
-use Rattle.std.specs.Prelude.{List, [], ◌∷◌, cond, ℕ, zero, suc, ◌+◌, eqb, get_or, drop}
+use Rattle.std.specs.Prelude.{List, [], ◌∷◌, cond, ℕ, zero, suc, ◌+◌, eqb, get_or, drop, Result, Ok, Err}
 use Rattle.counts.specs.Counts.{config_number, config_id}
 use Rattle.line.specs.declared.Line.{Line}
 use Rattle.cuts.specs.Lines.{lines_of}
@@ -8,15 +8,14 @@ use Rattle.line.specs.Digits.{digit_val, values_of}
 use Rattle.line.specs.Reading.{line_of}
 use Rattle.summary.specs.declared.Summary.{Summary}
 use Rattle.bus.specs.declared.Request.{Request}
-use Rattle.bus.specs.declared.ReplyForm.{ReplyForm}
-use Rattle.bus.specs.declared.ReplyForm.TheVariants.{Unanswered, Misshapen, Miscoded, Good}
+use Rattle.bus.specs.declared.Misreply.{Misreply}
+use Rattle.bus.specs.declared.Misreply.TheVariants.{Unanswered, Misshapen, Miscoded}
 use Rattle.bus.specs.Bus.{write_of, word_bytes}
 use Rattle.bus.specs.ReplyForm.{form_of}
+use Rattle.guide.specs.declared.Reason.{Reason}
 use Rattle.guide.specs.declared.Reason.TheVariants.{Nack, Shape, Pec, Program, Banks}
 use Rattle.guide.specs.declared.Verdict.TheVariants.{Done, Mismatch, Halted}
 use Rattle.guide.specs.declared.Target.{Target}
-use Rattle.guide.specs.declared.Fit.{Fit}
-use Rattle.guide.specs.declared.Fit.TheVariants.{Matched, Fails}
 use Rattle.guide.specs.declared.Polled.{Polled}
 use Rattle.guide.specs.declared.Polled.TheVariants.{Busy, Passed, Failed}
 use Rattle.guide.specs.Terms.{Terms}
@@ -24,12 +23,16 @@ use Rattle.guide.specs.Requests.{point_to, read_data, read_block, line_request}
 use Rattle.guide.specs.Plan.{Mark, other, file_line, Plan, ask, done}
 use Rattle.guide.specs.Judged.{cleared, fit_of, polled_of, banks_right}
 
+-- 20, 21 and 22: what a reply that is not in form halts with
+abbrev pub reply_reason : Misreply → Reason
+reply_reason Unanswered = Nack
+reply_reason Misshapen = Shape
+reply_reason Miscoded = Pec
+
 -- 20 to 22 are tried at each reply, in order; one in form goes on with the word read
-unfoldable pub hear : ReplyForm → (ℕ → Plan) → Plan
-hear Unanswered next = done (Halted Nack)
-hear Misshapen next = done (Halted Shape)
-hear Miscoded next = done (Halted Pec)
-hear (Good w) next = next w
+unfoldable pub hear : Result ℕ Misreply → (ℕ → Plan) → Plan
+hear (Err m) next = done (Halted (reply_reason m))
+hear (Ok w) next = next w
 
 abbrev pub put : Mark → Request → (ℕ → Plan) → Plan
 put m q next = ask (record { mark = m; request = q }) (λ r. hear (form_of q r.kind r.bytes) next)
@@ -47,9 +50,9 @@ step1 address rest =
     write (write_of address 0xC5 (word_bytes (cleared w))) (write (write_of address 0xE7 (0x02 ∷ 0x00 ∷ [])) rest))
 
 -- the way on where none of 23 to 28 applies
-unfoldable pub gate : Fit → Plan → Plan
-gate Matched rest = rest
-gate (Fails r) rest = done (Halted r)
+unfoldable pub gate : Result (Unit {0}) Reason → Plan → Plan
+gate (Ok tt) rest = rest
+gate (Err r) rest = done (Halted r)
 
 -- what a file asks of its device
 abbrev pub target_of : Summary → Target

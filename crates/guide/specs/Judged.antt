@@ -1,16 +1,13 @@
 -- The guide's decisions on what the device said, in numbers (document 01, "The session"). Assumes nothing.
-use Rattle.std.specs.Prelude.{ℕ, zero, suc, ◌+◌, ◌-◌, ◌*◌, ◌/◌, ◌%◌, ◌^◌, Bool, true, false, cond, eqb, ltb}
+use Rattle.std.specs.Prelude.{ℕ, zero, suc, ◌+◌, ◌-◌, ◌*◌, ◌/◌, ◌%◌, ◌^◌, Bool, true, false, cond, eqb, ltb, Option, Some, None, Result, Ok, Err}
 use Rattle.counts.specs.declared.Bank.{Bank}
 use Rattle.counts.specs.declared.Kind.{Kind}
 use Rattle.counts.specs.declared.Kind.TheVariants.{Legacy, Production}
-use Rattle.counts.specs.declared.KindFound.{KindFound}
-use Rattle.counts.specs.declared.KindFound.TheVariants.{Is, Unknown}
 use Rattle.counts.specs.Counts.{config_number, bank_of}
+use Rattle.guide.specs.declared.Reason.{Reason}
 use Rattle.guide.specs.declared.Reason.TheVariants.{Counter, Identity, Flag, Old, OtherKind, Places}
 use Rattle.guide.specs.declared.Target.{Target}
 use Rattle.guide.specs.declared.Words.{Words}
-use Rattle.guide.specs.declared.Fit.{Fit}
-use Rattle.guide.specs.declared.Fit.TheVariants.{Matched, Fails}
 use Rattle.guide.specs.declared.Polled.{Polled}
 use Rattle.guide.specs.declared.Polled.TheVariants.{Busy, Passed, Failed}
 
@@ -21,10 +18,10 @@ cleared w = w - w / 32 % 2 * 32
 -- ---- step 2: 23 to 28
 
 -- the kind wanted: flag 0 and counter under 28 means legacy; flag FFFE0001 or counter 28 means production
-unfoldable pub kind_wanted : ℕ → ℕ → KindFound
+unfoldable pub kind_wanted : ℕ → ℕ → Option Kind
 kind_wanted counter flag =
-    cond (cond (eqb flag 0) (ltb counter 28) false) (Is Legacy)
-    (cond (cond (eqb flag 0xFFFE0001) true (eqb counter 28)) (Is Production) Unknown)
+    cond (cond (eqb flag 0) (ltb counter 28) false) (Some Legacy)
+    (cond (cond (eqb flag 0xFFFE0001) true (eqb counter 28)) (Some Production) None)
 
 unfoldable pub same_kind : Kind → Kind → Bool
 same_kind Legacy Legacy = true
@@ -35,17 +32,17 @@ same_kind Production Production = true
 -- what a file asks of its device, where so many places are kept free, and what was read
 module _ (target : Target) (kept : ℕ) (read : Words) where
   -- OLD, KIND, PLACES
-  unfoldable pub fit_kind : KindFound → Fit
-  fit_kind Unknown = Fails Flag
-  fit_kind (Is wanted) =
-      cond (ltb (read.revision / 16777216) 6) (Fails Old)
-      (cond (same_kind target.kind wanted) (cond (ltb read.counter (target.configs + kept)) (Fails Places) Matched) (Fails OtherKind))
+  unfoldable pub fit_kind : Option Kind → Result (Unit {0}) Reason
+  fit_kind None = Err Flag
+  fit_kind (Some wanted) =
+      cond (ltb (read.revision / 16777216) 6) (Err Old)
+      (cond (same_kind target.kind wanted) (cond (ltb read.counter (target.configs + kept)) (Err Places) (Ok tt)) (Err OtherKind))
 
   -- COUNTER, IDENTITY, FLAG, OLD, KIND, PLACES, in this order, or none of them
-  unfoldable pub fit_of : Fit
+  unfoldable pub fit_of : Result (Unit {0}) Reason
   fit_of =
-      cond (ltb 28 read.counter) (Fails Counter)
-      (cond (eqb read.identity target.identity) (fit_kind (kind_wanted read.counter read.flag)) (Fails Identity))
+      cond (ltb 28 read.counter) (Err Counter)
+      (cond (eqb read.identity target.identity) (fit_kind (kind_wanted read.counter read.flag)) (Err Identity))
 
 -- ---- step 4: bit 0, and then bits 5..0 are to be 000001
 unfoldable pub polled_of : ℕ → Polled

@@ -2,6 +2,7 @@
 -- address that it is given first (document 02, R-2). Assumes nothing.
 use Rattle.std.specs.Prelude.{List, [], ◌∷◌, ℕ, take}
 use Rattle.line.specs.declared.Line.{Line}
+use Rattle.line.specs.Reading.{byte}
 use Rattle.bus.specs.declared.Request.{Request}
 use Rattle.bus.specs.Bus.{write_of, write_with, read_of}
 
@@ -16,7 +17,7 @@ read_block address command = read_of address command 6
 
 -- the data bytes that a line has
 unfoldable pub line_data : Line → List ℕ
-line_data l = take l.count (l.d0 ∷ l.d1 ∷ l.d2 ∷ l.d3 ∷ [])
+line_data l = take l.count (byte l 0 ∷ byte l 1 ∷ byte l 2 ∷ byte l 3 ∷ [])
 
 -- a write line with the address in use and its own PEC. At C0 it is the line as it stands, last byte included (`line_at_C0` of
 -- proofs/LineBytes.antt)

@@ -1,6 +1,6 @@
 -- What is proved of the guide's list alone, for every accepted text, settings and replies (document 01, demand 3). The proofs
 -- stand in proofs/. Assumes nothing.
-use Rattle.std.specs.Prelude.{◌≡◌, Bool, true, false, cond, ℕ, suc, ◌+◌, ◌-◌, ◌*◌, ◌≤◌, eqb, length, get_or}
+use Rattle.std.specs.Prelude.{◌≡◌, Bool, true, false, cond, ℕ, suc, ◌+◌, ◌-◌, ◌*◌, ◌≤◌, eqb, length, get_or, Ok}
 use mathlib.Core.List.{List, [], ◌∷◌, ◌++◌, Memᴰ}
 use Rattle.counts.specs.Counts.{config_number}
 use Rattle.line.specs.declared.Line.{Line}
@@ -8,10 +8,8 @@ use Rattle.cuts.specs.Lines.{lines_of}
 use Rattle.line.specs.Digits.{digit_val, values_of}
 use Rattle.summary.specs.declared.Summary.{Summary}
 use Rattle.bus.specs.declared.Request.{Request}
-use Rattle.bus.specs.declared.ReplyForm.TheVariants.{Good}
 use Rattle.bus.specs.ReplyForm.{form_of}
 use Rattle.guide.specs.declared.Verdict.{Verdict}
-use Rattle.guide.specs.declared.Fit.TheVariants as fit
 use Rattle.guide.specs.declared.Target.{Target}
 use Rattle.guide.specs.declared.Words.{Words}
 use Rattle.guide.specs.Numbers.{verdict_told}
@@ -21,13 +19,13 @@ use Rattle.guide.specs.Plan.{Reply, Mark, other, file_line, Asked, Plan, ended, 
 use Rattle.guide.specs.Requests.{line_request}
 use Rattle.guide.specs.Wire.{Wire}
 use Rattle.guide.specs.Guide.{guide_for}
-use Rattle.guide.specs.Matched.{Fits, Matched}
+use Rattle.guide.specs.Matched.{Fits}
 
 -- ---- the judgement passes exactly where the values match
 
 pub record JudgedExactly (target : Target) (kept : ℕ) (read : Words) : Type 0 where
-  pub passes : Fits target kept read → fit_of target kept read ≡ fit.Matched
-  pub matches : fit_of target kept read ≡ fit.Matched → Fits target kept read
+  pub passes : Fits target kept read → fit_of target kept read ≡ Ok tt
+  pub matches : fit_of target kept read ≡ Ok tt → Fits target kept read
 
 -- ---- the write lines among some requests, and the burn, which is line n
 
@@ -58,7 +56,7 @@ before_burn n (q ∷ qs) = cond (is_burn_mark n q.mark) [] (q ∷ before_burn n 
 -- each of these requests has its reply, in form
 pub data AllInForm : List Asked → List Reply → Type 0 where
   none : (rs : List Reply) → AllInForm [] rs
-  more : (q : Asked) (qs : List Asked) (r : Reply) (rs : List Reply) (w : ℕ) → form_of q.request r.kind r.bytes ≡ Good w → AllInForm qs rs
+  more : (q : Asked) (qs : List Asked) (r : Reply) (rs : List Reply) (w : ℕ) → form_of q.request r.kind r.bytes ≡ Ok w → AllInForm qs rs
       → AllInForm (q ∷ qs) (r ∷ rs)
 
 -- how often the burn's bytes stand among some requests, whatever their marks

@@ -1,10 +1,9 @@
 -- What is on the wire for a line of the file, by the line's values, and for the burn: with the address in use (document 02, R-2), and as
 -- document 01 has it, which is the same at C0 (proofs/LineBytes.antt). Assumes nothing.
-use Rattle.std.specs.Prelude.{◌≡◌, false, List, [], ◌∷◌, ◌++◌, ℕ, ◌-◌, ◌≤◌, length, take, drop}
+use Rattle.std.specs.Prelude.{◌≡◌, false, List, [], ◌∷◌, ◌++◌, ℕ, ◌-◌, ◌≤◌, length, take, drop, Ok}
 use Rattle.pec.specs.Pec.{pec}
 use Rattle.counts.specs.declared.LineNumber.{LineNumber}
 use Rattle.line.specs.declared.Line.{Line}
-use Rattle.line.specs.declared.LineReading.TheVariants.{Good}
 use Rattle.line.specs.Digits.{digit_val, values_of}
 use Rattle.line.specs.Reading.{read_line}
 use Rattle.line.specs.LineForm.{LineForm}
@@ -56,4 +55,4 @@ pub record RightAt (address : ℕ) (W : Wire) : Type 0 where
 -- for every write line that reads, its request for this address is what is on the wire
 unfoldable pub ReadsAs : ℕ → Wire → Type 0
 ReadsAs address W =
-    (n : LineNumber) (t : List ℕ) (l : Line) → 5 ≤ n.0 → read_line n t ≡ Good l → line_request address l ≡ W.line (values_of digit_val t)
+    (n : LineNumber) (t : List ℕ) (l : Line) → 5 ≤ n.0 → read_line n t ≡ Ok l → line_request address l ≡ W.line (values_of digit_val t)

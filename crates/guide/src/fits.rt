@@ -1,70 +1,23 @@
 // Step 2: whether the device is the one that the file is for, 23 to 28 in document 01's order.
 ghost use Rattle.std.specs.Prelude.{◌≡◌};
 ghost use Rattle.guide.specs.Guide.{target_of};
-ghost use Rattle.guide.specs.Judged.{kind_wanted, same_kind, fit_kind, fit_of};
+ghost use Rattle.guide.specs.Judged.{kind_wanted, fit_of};
 
-use crate::{Fit, Reason, Target, Words};
-use counts::{Kind, KindFound};
+use crate::{Reason, Target, Words};
+use counts::Kind;
 use summary::Summary;
 
 // The kind of file that a device with this counter and this flag wants.
-#[tactic(auto, using(counts::proofs::Tests::tests), unfolding(crate::specs::Judged::kind_wanted))]
-pub fn kind_wanted(counter: u32, flag: u32) -> KindFound
+#[tactic(auto, unfolding(crate::specs::Judged::kind_wanted))]
+pub fn kind_wanted(counter: u32, flag: u32) -> Option<Kind>
     ensures { result ≡ kind_wanted counter flag }
 {
-    if flag == 0 {
-        if counter < 28 {
-            return KindFound::Is(Kind::Legacy);
-        }
-    }
-    if flag == 0xFFFE0001 {
-        return KindFound::Is(Kind::Production);
-    }
-    if counter == 28 {
-        KindFound::Is(Kind::Production)
+    if flag == 0 && counter < 28 {
+        Some(Kind::Legacy)
+    } else if flag == 0xFFFE0001 || counter == 28 {
+        Some(Kind::Production)
     } else {
-        KindFound::Unknown
-    }
-}
-
-#[tactic(auto, unfolding(crate::specs::Judged::same_kind))]
-fn same_kind(a: Kind, b: Kind) -> bool
-    ensures { result ≡ same_kind a b }
-{
-    match a {
-        Kind::Legacy => match b {
-            Kind::Legacy => true,
-            Kind::Production => false,
-        },
-        Kind::Production => match b {
-            Kind::Legacy => false,
-            Kind::Production => true,
-        },
-    }
-}
-
-// FLAG, OLD, KIND, PLACES, where the counter and the identity passed.
-#[tactic(auto, using(promise::proofs::Basics::via), unfolding(crate::specs::Judged::fit_kind))]
-fn fit_kind(target: Target, kept: u8, read: Words, wanted: KindFound) -> Fit
-    ensures { result ≡ fit_kind target kept read wanted }
-{
-    match wanted {
-        KindFound::Unknown => Fit::Fails(Reason::Flag),
-        KindFound::Is(found) => {
-            if read.revision / 16777216 < 6 {
-                return Fit::Fails(Reason::Old);
-            }
-            let kind = target.kind;
-            if same_kind(kind, found) {
-                if read.counter < target.configs as u32 + kept as u32 {
-                    Fit::Fails(Reason::Places)
-                } else {
-                    Fit::Matched
-                }
-            } else {
-                Fit::Fails(Reason::OtherKind)
-            }
-        }
+        None
     }
 }
 
@@ -73,28 +26,34 @@ impl Target {
     pub fn of(file: Summary) -> Target
         ensures { result ≡ target_of file }
     {
-        let kind = file.kind;
         Target {
-            kind: kind,
+            kind: file.kind,
             identity: file.identity,
             configs: file.configs,
         }
     }
-}
 
-impl Fit {
-    // Of what a file asks and what was read of a device, where so many of its places are kept free.
-    #[tactic(auto, unfolding(crate::specs::Judged::fit_of))]
-    pub fn of(target: Target, kept: u8, read: Words) -> Fit
-        ensures { result ≡ fit_of target kept read }
+    // Whether a device of which this was read is the one asked for, where so many of its places are kept free.
+    #[tactic(auto, using(crate::proofs::SameKind::kinds_compared), unfolding(crate::specs::Judged::fit_of, crate::specs::Judged::fit_kind))]
+    pub fn fit(self, kept: u8, read: Words) -> Result<(), Reason>
+        ensures { result ≡ fit_of self kept read }
     {
         if 28 < read.counter {
-            return Fit::Fails(Reason::Counter);
+            return Err(Reason::Counter);
         }
-        if read.identity == target.identity {
-            fit_kind(target, kept, read, kind_wanted(read.counter, read.flag))
-        } else {
-            Fit::Fails(Reason::Identity)
+        if read.identity != self.identity {
+            return Err(Reason::Identity);
         }
+        let wanted = kind_wanted(read.counter, read.flag).ok_or(Reason::Flag)?;
+        if read.revision / 16777216 < 6 {
+            return Err(Reason::Old);
+        }
+        if self.kind != wanted {
+            return Err(Reason::OtherKind);
+        }
+        if read.counter < self.configs as u32 + kept as u32 {
+            return Err(Reason::Places);
+        }
+        Ok(())
     }
 }

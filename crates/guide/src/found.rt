@@ -1,5 +1,5 @@
 // Steps 4 and 5: what the status and the banks come to.
-ghost use Rattle.std.specs.Prelude.{◌≡◌};
+ghost use Rattle.std.specs.Prelude.{◌≡◌, ◌<◌};
 ghost use Rattle.guide.specs.Judged.{polled_of, bank_in, reports_in, bank_right, banks_right};
 
 use crate::Polled;
@@ -7,7 +7,7 @@ use counts::{Bank, ConfigNumber};
 
 impl Polled {
     // Bits above 5 are not judged, and no other bit while bit 0 is clear.
-    #[tactic(auto, using(counts::proofs::Tests::tests), unfolding(crate::specs::Judged::polled_of))]
+    #[tactic(auto, unfolding(crate::specs::Judged::polled_of))]
     pub fn of(status: u32) -> Polled
         ensures { result ≡ polled_of status }
     {
@@ -21,26 +21,22 @@ impl Polled {
     }
 }
 
-// The bank's part of the register: bank b is bits 4b+3 to 4b, above four for each lower bank.
-#[tactic(auto, using(crate::proofs::Banks::above_on), unfolding(crate::specs::Judged::bank_in))]
+// The bank's part of the register: bank b is bits 4b+3 to 4b.
+#[tactic(auto, using(crate::proofs::Banks::bank_shifted))]
 fn bank_shows(word: u32, bank: Bank) -> u32
+    requires { bank.0 < 8 }
     ensures { result ≡ bank_in word bank }
 {
-    let mut rest = word;
-    for lower in 0..bank.0 {
-        rest = rest / 16;
-    }
-    rest % 16
+    (word >> (4 * bank.0)) % 16
 }
 
 // Whether one of the first k configurations reports in this bank. `ConfigNumber::bank` alone says in which each does.
-#[tactic(auto, using(crate::proofs::Banks::reports_below, crate::proofs::Banks::reports_on), unfolding(crate::specs::Judged::reports_in))]
+#[tactic(auto, using(crate::proofs::Banks::reports_below), unfolding(crate::specs::Judged::reports_in))]
 fn reports_in(configs: u8, bank: Bank) -> bool
     ensures { result ≡ reports_in configs bank }
 {
     for n in 0..configs {
-        let own = ConfigNumber(n).bank();
-        if own.0 == bank.0 {
+        if ConfigNumber(n).bank() == bank {
             return true;
         }
     }
@@ -48,27 +44,21 @@ fn reports_in(configs: u8, bank: Bank) -> bool
 }
 
 // 0001 where a configuration reports, 0000 elsewhere.
-#[tactic(auto, using(promise::proofs::Basics::via), unfolding(crate::specs::Judged::bank_right))]
+#[tactic(auto, unfolding(crate::specs::Judged::bank_right))]
 fn bank_right(configs: u8, word: u32, bank: Bank) -> bool
+    requires { bank.0 < 8 }
     ensures { result ≡ bank_right configs word bank.0 }
 {
-    if reports_in(configs, bank) {
-        bank_shows(word, bank) == 1
-    } else {
-        bank_shows(word, bank) == 0
-    }
+    bank_shows(word, bank) == u32::from(reports_in(configs, bank))
 }
 
 // All eight banks that the register shows.
-#[tactic(auto, using(promise::proofs::Basics::via, crate::proofs::Banks::every_on, crate::proofs::Banks::every_stop), unfolding(crate::specs::Judged::every_below, crate::specs::Judged::banks_right))]
+#[tactic(auto, using(crate::proofs::Banks::every_on, crate::proofs::Banks::every_stop), unfolding(crate::specs::Judged::every_below, crate::specs::Judged::banks_right))]
 pub fn banks_right(configs: u8, word: u32) -> bool
     ensures { result ≡ banks_right configs word }
 {
-    let mut b: u8 = 0;
-    while b < 8 {
-        if bank_right(configs, word, Bank(b)) {
-            b += 1;
-        } else {
+    for b in 0..8 {
+        if !bank_right(configs, word, Bank(b)) {
             return false;
         }
     }

@@ -12,23 +12,24 @@ pub use found::banks_right;
 pub use requests::{cleared, line_request, point};
 use summary::Refusal;
 
-// Why a session that had begun is halted, 20 to 30.
-#[derive(Clone, Copy)]
+// Why a session that had begun is halted, by document 01's number.
+#[derive(Clone, Copy, PartialEq, Eq)]
 pub enum Reason {
-    Nack,
-    Shape,
-    Pec,
-    Counter,
-    Identity,
-    Flag,
-    Old,
-    OtherKind,
-    Places,
-    Program,
-    Banks,
+    Nack = 20,
+    Shape = 21,
+    Pec = 22,
+    Counter = 23,
+    Identity = 24,
+    Flag = 25,
+    Old = 26,
+    OtherKind = 27,
+    Places = 28,
+    Program = 29,
+    Banks = 30,
 }
 
-// How a session can end: DONE, a refused beginning (14, the file's refusal, or 15 for a summary), 31 with its N, or 20 to 30.
+// How a session can end: DONE, a refused beginning (14, the file's refusal, or 15 for a summary), 31 with its N, or 20 to 30. No Result is
+// plainer: the six ways are verdicts alike.
 #[derive(Clone, Copy)]
 pub enum Verdict {
     Done,
@@ -40,7 +41,7 @@ pub enum Verdict {
 }
 
 // What a file asks of the device that it is for: its kind, its identity and a place for each configuration.
-#[derive(Clone, Copy)]
+#[derive(Clone, Copy, PartialEq, Eq)]
 pub struct Target {
     pub kind: Kind,
     pub identity: u32,
@@ -48,7 +49,7 @@ pub struct Target {
 }
 
 // The words that step 2 reads, in its order.
-#[derive(Clone, Copy)]
+#[derive(Clone, Copy, PartialEq, Eq)]
 pub struct Words {
     pub counter: u32,
     pub identity: u32,
@@ -56,15 +57,8 @@ pub struct Words {
     pub revision: u32,
 }
 
-// 23 to 28, or none of them.
-#[derive(Clone, Copy)]
-pub enum Fit {
-    Matched,
-    Fails(Reason),
-}
-
 // What a status read in step 4 comes to: bit 0 is clear, or it is 1 and the others of 5..0 are right, or wrong.
-#[derive(Clone, Copy)]
+#[derive(Clone, Copy, PartialEq, Eq)]
 pub enum Polled {
     Busy,
     Passed,

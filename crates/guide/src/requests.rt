@@ -18,24 +18,14 @@ pub fn cleared(word: u32) -> u32
 pub fn point(address: u8, register: u16) -> Request
     ensures { result ≡ point_to address (register % 256) (register / 256) }
 {
-    let low = (register % 256) as u8;
-    let high = (register / 256) as u8;
-    Bus::write(address, Bus::POINT, 2, low, high, 0, 0)
+    let [low, high] = register.to_le_bytes();
+    Bus::write(address, Bus::POINT, 2, [low, high, 0, 0])
 }
 
 // A write line for this address. Its PEC is worked out by a lent table; by the PEC's own and at C0 it is the line's last byte.
-#[tactic(auto, unfolding(crate::specs::Requests::line_request_with, crate::specs::Requests::line_data))]
+#[tactic(auto, using(crate::proofs::LentTable::four_bytes_of), unfolding(crate::specs::Requests::line_request_with, crate::specs::Requests::line_data))]
 pub fn line_request(address: u8, table: &[u8; 256], line: Line) -> Request
     ensures { result ≡ line_request_with address table.now line }
 {
-    Bus::write_with(
-        address,
-        table,
-        line.command,
-        line.count,
-        line.d0,
-        line.d1,
-        line.d2,
-        line.d3,
-    )
+    Bus::write_with(address, table, line.command, line.count, line.bytes)
 }

@@ -19,8 +19,5 @@ pub extern "C" fn tehilgam_pec(bytes: &[u8]) -> u8
 pub extern "C" fn tehilgam_refusal(text: &[u8]) -> u8
     ensures { result ≡ (answer_told (check_of text.now).answer).number }
 {
-    let checked = image::check(text);
-    let answer = checked.answer;
-    let told = answer.told();
-    told.number
+    image::check(text).told().number
 }

@@ -1,4 +1,5 @@
 -- Laws of the definitions that the functions' proofs cite. Assumes nothing.
+use Rattle.summary.specs.Answers.{FileAnswer}
 use Prim.Native.Nat.{ℕ, ◌+◌, ◌*◌, ◌≤◌, ◌<◌}
 use mathlib.Core.Path.{◌≡◌, ◌∙◌, sym, ap}
 use mathlib.Core.Bool.{Bool, true, false, cond}
@@ -9,7 +10,6 @@ use Rattle.counts.specs.Counts.{line_count}
 use Rattle.counts.specs.declared.Kind.{Kind}
 use Rattle.counts.specs.declared.Kind.TheVariants.{Legacy, Production}
 use Rattle.summary.specs.declared.Checked.{Checked}
-use Rattle.summary.specs.declared.FileAnswer.{FileAnswer}
 use Rattle.image.specs.Check.{check_of}
 use Rattle.bus.specs.ReplyForm.{form_of}
 use Rattle.guide.specs.declared.Verdict.{Verdict}

@@ -1,4 +1,3 @@
 pub mod Tests
-pub mod Ids
 pub mod Laws
 pub mod OneAnswer

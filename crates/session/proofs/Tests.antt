@@ -24,16 +24,6 @@ all_not (true ∷ bs) zero e = let z : ◌≡◌ {A = ℕ} 0 1 = cc in absurd (o
 all_not (true ∷ bs) (suc i) e = all_not bs i e
 all_not (false ∷ bs) i e = refl
 
--- the last of a list of tests, where those before it hold
-pub all_last1 : (b : Bool) → b ≡ all (b ∷ [])
-unfolding all
-all_last1 true = refl
-all_last1 false = refl
-
-pub all_next : (a x : Bool) (bs : List Bool) → a ≡ true → x ≡ all bs → x ≡ all (a ∷ bs)
-unfolding all
-all_next a x bs e h = rw (e, h)
-
 -- the first test of a list that fails, or the others
 pub fails : (a : Bool) (bs : List Bool) → all (a ∷ bs) ≡ false → (a ≡ false) ⊎ (all bs ≡ false)
 unfolding all

@@ -1,13 +1,11 @@
 -- The beginning (document 01, "The session"; document 02, R-3): settings, summary, first request; and the one operation that checks the
 -- file before it. Assumes nothing.
-use Rattle.std.specs.Prelude.{ℕ, List, false, cond}
+use Rattle.std.specs.Prelude.{ℕ, List, false, cond, Ok, Err}
 use Rattle.counts.specs.declared.LineNumber.{LineNumber}
 use Rattle.counts.specs.Counts.{line_number, config_number, first_line}
 use Rattle.summary.specs.declared.Summary.{Summary}
 use Rattle.summary.specs.declared.Checked.{Checked}
-use Rattle.summary.specs.declared.FileAnswer.{FileAnswer}
-use Rattle.summary.specs.declared.FileAnswer.TheVariants.{Accepted, Refused}
-use Rattle.summary.specs.Answers.{no_summary}
+use Rattle.summary.specs.Answers.{FileAnswer, no_summary}
 use Rattle.image.specs.Check.{check_of}
 use Rattle.bus.specs.Bus.{no_request}
 use Rattle.guide.specs.declared.Verdict.{Verdict}
@@ -54,8 +52,8 @@ begin_with S f = cond (allowed_of S) (cond (file_sound f) (start_of S f) (refuse
 -- ---- document 01's one operation: a check, and a beginning with its summary; a refused file has its own number, behind 14
 
 unfoldable pub answered_of : Settings → Summary → FileAnswer → Handed
-answered_of S f Accepted = begin_with S f
-answered_of S f (Refused r) = refused_of S (File r)
+answered_of S f (Ok tt) = begin_with S f
+answered_of S f (Err r) = refused_of S (File r)
 
 unfoldable pub checked_of : Settings → Checked → Handed
 checked_of S k = answered_of S k.summary k.answer

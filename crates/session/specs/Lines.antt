@@ -1,12 +1,10 @@
 -- Step 3 of document 01: the write lines go out with the address in use and their own PEC, each read at the held place; where what
 -- stands there may not go out, the state is refused. Assumes nothing.
-use Rattle.std.specs.Prelude.{ℕ, ◌+◌, List, Bool, true, cond, eqb, ltb}
+use Rattle.std.specs.Prelude.{ℕ, ◌+◌, List, Bool, true, cond, eqb, ltb, Some, None, Ok, Err}
 use Rattle.counts.specs.declared.LineNumber.{LineNumber}
 use Rattle.counts.specs.Counts.{line_number}
 use Rattle.line.specs.declared.Line.{Line}
-use Rattle.line.specs.declared.NextLine as line
-use Rattle.line.specs.declared.NextLine.TheVariants.{End, Took, Stopped}
-use Rattle.line.specs.Reading.{next_line}
+use Rattle.line.specs.Reading.{next_line, NextLine}
 use Rattle.summary.specs.Burn.{is_burn}
 use Rattle.guide.specs.Requests.{point_to, line_request}
 use Rattle.session.specs.declared.Position.{Position}
@@ -30,10 +28,10 @@ took_of s l next n =
     (cond (eqb n.0 s.file.lines) (bad_of s) (due_put_of s l next n s.burned))
 
 -- what stands at the held place is to pass 2 to 6 as a write line
-unfoldable pub due_of : Session → LineNumber → line.NextLine → Handed
-due_of s n End = bad_of s
-due_of s n (Took l next) = took_of s l next n
-due_of s n (Stopped r) = bad_of s
+unfoldable pub due_of : Session → LineNumber → NextLine → Handed
+due_of s n (Ok None) = bad_of s
+due_of s n (Ok (Some (l, next))) = took_of s l next n
+due_of s n (Err r) = bad_of s
 
 unfoldable pub put_line_of : List ℕ → Session → LineNumber → Handed
 put_line_of text s n = due_of s n (next_line n s.position.place text)

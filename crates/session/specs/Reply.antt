@@ -1,12 +1,11 @@
 -- A reply: a verdict is looked at first, then the held state, then the reply, by the request in hand (document 01, "The
 -- session"). Assumes nothing.
-use Rattle.std.specs.Prelude.{ℕ, List, [], ◌∷◌, cond}
-use Rattle.bus.specs.declared.ReplyForm.{ReplyForm}
-use Rattle.bus.specs.declared.ReplyForm.TheVariants.{Unanswered, Misshapen, Miscoded, Good}
+use Rattle.std.specs.Prelude.{ℕ, List, [], ◌∷◌, cond, Result, Ok, Err}
+use Rattle.bus.specs.declared.Misreply.{Misreply}
 use Rattle.bus.specs.Bus.{write_of, word_bytes}
 use Rattle.bus.specs.ReplyForm.{form_of}
-use Rattle.guide.specs.declared.Reason.TheVariants.{Nack, Shape, Pec}
 use Rattle.guide.specs.declared.Verdict.TheVariants.{Halted}
+use Rattle.guide.specs.Guide.{reply_reason}
 use Rattle.guide.specs.Judged.{cleared}
 use Rattle.guide.specs.Requests.{point_to, read_data}
 use Rattle.session.specs.declared.Session.{Session}
@@ -42,11 +41,9 @@ follow_of text s CrcAt w = put_of s CrcRead (read_data (address_of s))
 follow_of text s CrcRead w = crc_done_of s w
 
 -- 20 to 22 are tried at each reply, in order
-unfoldable pub replied_of : List ℕ → Session → Awaited → ReplyForm → Handed
-replied_of text s g Unanswered = end_of s (Halted Nack)
-replied_of text s g Misshapen = end_of s (Halted Shape)
-replied_of text s g Miscoded = end_of s (Halted Pec)
-replied_of text s g (Good w) = follow_of text s g w
+unfoldable pub replied_of : List ℕ → Session → Awaited → Result ℕ Misreply → Handed
+replied_of text s g (Err m) = end_of s (Halted (reply_reason m))
+replied_of text s g (Ok w) = follow_of text s g w
 
 -- a state with a verdict is not examined further
 unfoldable pub stage_of : List ℕ → Session → ℕ → List ℕ → Stage → Handed

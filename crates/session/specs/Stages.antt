@@ -1,14 +1,13 @@
 -- What a reply in form leads to where its word is looked at, or where configurations are gone through: steps 2, 4, 5 and 6 of
 -- document 01. Assumes nothing.
-use Rattle.std.specs.Prelude.{ℕ, ◌+◌, List, [], ◌∷◌, cond, eqb, ltb}
+use Rattle.std.specs.Prelude.{ℕ, ◌+◌, List, [], ◌∷◌, cond, eqb, ltb, Result, Ok, Err}
 use Rattle.counts.specs.declared.ConfigNumber.{ConfigNumber}
 use Rattle.counts.specs.Counts.{config_number, first_line}
 use Rattle.bus.specs.Bus.{write_of}
+use Rattle.guide.specs.declared.Reason.{Reason}
 use Rattle.guide.specs.declared.Reason.TheVariants.{Program, Banks}
 use Rattle.guide.specs.declared.Verdict.TheVariants.{Done, Mismatch, Halted}
 use Rattle.guide.specs.declared.Words.{Words}
-use Rattle.guide.specs.declared.Fit.{Fit}
-use Rattle.guide.specs.declared.Fit.TheVariants.{Matched, Fails}
 use Rattle.guide.specs.declared.Polled.{Polled}
 use Rattle.guide.specs.declared.Polled.TheVariants.{Busy, Passed, Failed}
 use Rattle.guide.specs.Requests.{point_to, read_data, read_block}
@@ -59,11 +58,11 @@ unfoldable pub flag_done_of : Session → ℕ → Handed
 flag_done_of s w = put_of (having_read s (with_flag s.position.read w)) RevisionRead (read_block (address_of s) 0xAE)
 
 -- 23 to 28 are tried after the AE reply; where none applies, line 5 is due
-unfoldable pub fit_done_of : List ℕ → Session → Fit → Handed
-fit_done_of text s Matched = put_line_of text s first_line
-fit_done_of text s (Fails r) = end_of s (Halted r)
+unfoldable pub fit_done_of : List ℕ → Session → Result (Unit {0}) Reason → Handed
+fit_done_of text s (Ok tt) = put_line_of text s first_line
+fit_done_of text s (Err r) = end_of s (Halted r)
 
-unfoldable pub fit_held : Session → ℕ → Fit
+unfoldable pub fit_held : Session → ℕ → Result (Unit {0}) Reason
 fit_held s revision = fit_of (target_of s.file) (kept_of s.settings.rule) (with_revision s.position.read revision)
 
 unfoldable pub revision_done_of : List ℕ → Session → ℕ → Handed

@@ -2,19 +2,19 @@
 ghost use Rattle.std.specs.Prelude.{◌≡◌};
 ghost use Rattle.session.specs.Reports.{report_of};
 
-use crate::{Answer, Report};
+use crate::Answer;
 use summary::Told;
 
 impl Answer {
     // While a reply is awaited there is no number, since DONE is 0.
     #[tactic(auto, unfolding(crate::specs::Reports::report_of))]
-    pub fn report(self) -> Report
+    pub fn report(self) -> Option<Told>
         ensures { result ≡ report_of self }
     {
         match self {
-            Answer::Next => Report::Waiting,
-            Answer::Over(verdict) => Report::Is(verdict.told()),
-            Answer::BadState => Report::Is(Told::plain(15)),
+            Answer::Next => None,
+            Answer::Over(verdict) => Some(verdict.told()),
+            Answer::BadState => Some(Told::plain(15)),
         }
     }
 }

@@ -4,21 +4,18 @@ ghost use Rattle.session.specs.Begin.{begin_of};
 
 use crate::{Handed, Settings};
 use guide::Verdict;
-use summary::FileAnswer;
 
 impl Settings {
     // A bad setting with a bad file is 14; a refused file has its own number.
-    #[tactic(auto, using(promise::proofs::Basics::via, crate::proofs::Laws::begin_answered, crate::proofs::Laws::begin_not), unfolding(crate::specs::Begin::answered_of))]
+    #[tactic(auto, using(crate::proofs::Laws::begin_not), unfolding(crate::specs::Begin::answered_of))]
     pub fn begin(self, text: &[u8]) -> Handed
         ensures { result ≡ begin_of self text.now }
     {
         if self.allowed() {
             let checked = image::check(text);
-            let answer = checked.answer;
-            let summary = checked.summary;
-            match answer {
-                FileAnswer::Accepted => self.begin_with(summary),
-                FileAnswer::Refused(refusal) => self.refused(Verdict::File(refusal)),
+            match checked.answer {
+                Ok(()) => self.begin_with(checked.summary),
+                Err(refusal) => self.refused(Verdict::File(refusal)),
             }
         } else {
             self.refused(Verdict::Setting)

@@ -16,8 +16,8 @@ impl Position {
         ensures { result ≡ new_position line place }
     {
         Position {
-            line: line,
-            place: place,
+            line,
+            place,
             config: ConfigNumber(0),
             polls: 0,
             read: Words {
@@ -37,26 +37,25 @@ impl Session {
         ensures { result ≡ fresh_of settings file stage position }
     {
         Session {
-            settings: settings,
-            file: file,
-            stage: stage,
+            settings,
+            file,
+            stage,
             hand: Bus::none(),
-            position: position,
+            position,
             sent: 0,
             burned: false,
         }
     }
 
-    #[tactic(auto, using(crate::proofs::Tests::chosen), unfolding(crate::specs::Begin::first_of))]
+    #[tactic(auto, unfolding(crate::specs::Begin::first_of))]
     fn first_request(self) -> Handed
         requires { self.sent < 4294967295 }
         ensures { result ≡ first_of self }
     {
-        let address = self.settings.address;
         if self.settings.wanted {
-            self.put(Awaited::CaptureAt, guide::point(address, Bus::CAPTURE))
+            self.point(Awaited::CaptureAt, Bus::CAPTURE)
         } else {
-            self.put(Awaited::CounterAt, guide::point(address, Bus::COUNTER))
+            self.point(Awaited::CounterAt, Bus::COUNTER)
         }
     }
 }
@@ -81,7 +80,7 @@ impl Settings {
     }
 
     // Settings come first: a bad setting with a bad summary is 14. Of a summary nothing but k, n and the identifiers under k is looked at.
-    #[tactic(auto, using(promise::proofs::Basics::via, crate::proofs::Laws::begin_sound, crate::proofs::Laws::begin_unsound, crate::proofs::Laws::begin_out))]
+    #[tactic(auto, unfolding(crate::specs::Begin::begin_with))]
     pub fn begin_with(self, file: Summary) -> Handed
         ensures { result ≡ begin_with self file }
     {

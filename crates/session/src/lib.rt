@@ -13,7 +13,7 @@ mod stages;
 use bus::Request;
 use counts::{ConfigNumber, LineNumber};
 use guide::{Verdict, Words};
-use summary::{Summary, Told};
+use summary::Summary;
 
 #[derive(Clone, Copy)]
 pub struct Settings {
@@ -52,25 +52,20 @@ pub enum Awaited {
     CrcRead,
 }
 
+// A reply is awaited, or a verdict stands. No Result is plainer: DONE is a verdict too, and no error.
 #[derive(Clone, Copy)]
 pub enum Stage {
     Open(Awaited),
     Ended(Verdict),
 }
 
-// What a call says: a request is out, the session is over, or the state is refused (15), which is no verdict.
+// What a call says: a request is out, the session is over, or the state is refused (15), which is no verdict. A Result of an Option is
+// no plainer, since neither would say which is which.
 #[derive(Clone, Copy)]
 pub enum Answer {
     Next,
     Over(Verdict),
     BadState,
-}
-
-// An answer in document 01's numbers: none stands yet, or what is told of it.
-#[derive(Clone, Copy)]
-pub enum Report {
-    Waiting,
-    Is(Told),
 }
 
 // Where the session is in the file and with the device, and what it has read.

@@ -6,23 +6,20 @@ ghost use Rattle.session.specs.Private.Ready.{Ready};
 ghost use Rattle.session.specs.Reply.{follow_of, replied_of, reply_of};
 
 use crate::{Answer, Awaited, Handed, Session, Stage};
-use bus::{Bus, ReplyForm, Request};
-use guide::{Reason, Verdict};
+use bus::{Bus, Misreply, Request};
+use guide::Verdict;
 
 // The word of step 1 goes back to its register, lowest byte first, as words are read.
 #[tactic(auto, unfolding(bus::specs::Bus::word_bytes))]
 fn write_back(address: u8, word: u32) -> Request
     ensures { result ≡ write_of address 0xC5 (word_bytes word) }
 {
-    let a = (word % 256) as u8;
-    let b = (word / 256 % 256) as u8;
-    let c = (word / 65536 % 256) as u8;
-    let d = (word / 16777216 % 256) as u8;
-    Bus::write(address, Bus::DATA, 4, a, b, c, d)
+    Bus::write(address, Bus::DATA, 4, word.to_le_bytes())
 }
 
 impl Session {
-    // A reply in form, by the request that it answers.
+    // A reply in form, by the request that it answers. One match over all of them, in the order of the page, in which none can be left
+    // out; a closure for each would say no less.
     #[tactic(auto, unfolding(crate::specs::Reply::follow_of))]
     fn follow(self, text: &[u8], awaited: Awaited, word: u32) -> Handed
         requires { Ready self }
@@ -30,46 +27,41 @@ impl Session {
     {
         let address = self.settings.address;
         match awaited {
-            Awaited::CaptureAt => self.put(Awaited::CaptureRead, Bus::read(address, Bus::DATA, 5)),
+            Awaited::CaptureAt => self.read(Awaited::CaptureRead),
             Awaited::CaptureRead => self.put(
                 Awaited::CaptureWrite,
                 write_back(address, guide::cleared(word)),
             ),
             Awaited::CaptureWrite => self.put(
                 Awaited::CaptureApply,
-                Bus::write(address, Bus::ACT, 2, 2, 0, 0, 0),
+                Bus::write(address, Bus::ACT, 2, [2, 0, 0, 0]),
             ),
-            Awaited::CaptureApply => self.put(
-                Awaited::CounterAt,
-                guide::point(address, Bus::COUNTER),
-            ),
-            Awaited::CounterAt => self.put(Awaited::CounterRead, Bus::read(address, Bus::DATA, 5)),
+            Awaited::CaptureApply => self.point(Awaited::CounterAt, Bus::COUNTER),
+            Awaited::CounterAt => self.read(Awaited::CounterRead),
             Awaited::CounterRead => self.counter_done(word),
             Awaited::IdentityRead => self.identity_done(word),
-            Awaited::FlagAt => self.put(Awaited::FlagRead, Bus::read(address, Bus::DATA, 5)),
+            Awaited::FlagAt => self.read(Awaited::FlagRead),
             Awaited::FlagRead => self.flag_done(word),
             Awaited::RevisionRead => self.revision_done(text, word),
             Awaited::LineOut => self.line_done(text),
-            Awaited::StatusAt => self.put(Awaited::StatusRead, Bus::read(address, Bus::DATA, 5)),
+            Awaited::StatusAt => self.read(Awaited::StatusRead),
             Awaited::StatusRead => self.status_done(word),
-            Awaited::BanksAt => self.put(Awaited::BanksRead, Bus::read(address, Bus::DATA, 5)),
+            Awaited::BanksAt => self.read(Awaited::BanksRead),
             Awaited::BanksRead => self.banks_done(word),
-            Awaited::Restore => self.put(Awaited::CrcAt, guide::point(address, Bus::CRC)),
-            Awaited::CrcAt => self.put(Awaited::CrcRead, Bus::read(address, Bus::DATA, 5)),
+            Awaited::Restore => self.point(Awaited::CrcAt, Bus::CRC),
+            Awaited::CrcAt => self.read(Awaited::CrcRead),
             Awaited::CrcRead => self.crc_done(word),
         }
     }
 
     #[tactic(auto, unfolding(crate::specs::Reply::replied_of))]
-    fn replied(self, text: &[u8], awaited: Awaited, form: ReplyForm) -> Handed
+    fn replied(self, text: &[u8], awaited: Awaited, form: Result<u32, Misreply>) -> Handed
         requires { Ready self }
         ensures { result ≡ replied_of text.now self awaited form }
     {
         match form {
-            ReplyForm::Unanswered => self.end(Verdict::Halted(Reason::Nack)),
-            ReplyForm::Misshapen => self.end(Verdict::Halted(Reason::Shape)),
-            ReplyForm::Miscoded => self.end(Verdict::Halted(Reason::Pec)),
-            ReplyForm::Good(word) => self.follow(text, awaited, word),
+            Ok(word) => self.follow(text, awaited, word),
+            Err(misreply) => self.end(Verdict::Halted(misreply.into())),
         }
     }
 
@@ -85,18 +77,16 @@ impl Session {
         }
     }
 
-    // A state with a verdict is not examined; any other is, before the reply is looked at.
-    #[tactic(auto, using(promise::proofs::Basics::via, crate::proofs::Laws::ready, crate::proofs::Laws::when_ended, crate::proofs::Laws::when_open))]
+    // A state with a verdict is not examined; any other is, before the reply is looked at. The kind is any byte of a host's (`form_of`).
+    #[tactic(auto, using(crate::proofs::Laws::ready, crate::proofs::Laws::when_ended))]
     pub fn reply(self, text: &[u8], kind: u8, bytes: &[u8]) -> Handed
         ensures { result ≡ reply_of text.now self kind bytes.now }
     {
-        let stage = self.stage;
-        match stage {
+        match self.stage {
             Stage::Ended(verdict) => self.over(verdict),
             Stage::Open(awaited) => {
                 if self.sound() {
-                    let hand = self.hand;
-                    self.replied(text, awaited, hand.form(kind, bytes))
+                    self.replied(text, awaited, self.hand.form(kind, bytes))
                 } else {
                     self.bad()
                 }

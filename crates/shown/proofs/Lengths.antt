@@ -14,11 +14,11 @@ use Rattle.text.specs.Text.{bytes_of}
 use Rattle.text.proofs.Laws.{digits-length, decimal-length}
 use Rattle.shown.specs.Shown.{kind_name, row_of, rows_to, head_of, accepted_text, refused_text}
 
-pub row-length : (id : ConfigId) (crc : ℕ) → length (row_of id crc) ≡ 11
+row-length : (id : ConfigId) (crc : ℕ) → length (row_of id crc) ≡ 11
 unfolding row_of
 row-length id crc = simp (length-append, digits-length)
 
-pub rows-length : (s : Summary) (n : ℕ) → length (rows_to s n) ≡ 11 * n
+rows-length : (s : Summary) (n : ℕ) → length (rows_to s n) ≡ 11 * n
 unfolding rows_to
 rows-length s zero = refl
 rows-length s (suc n) = simp length-append (omega (arith, rows-length s n, row-length (get_or s.ids n (config_id 0)) (get_or s.crcs n 0)))
@@ -28,7 +28,7 @@ unfolding kind_name bytes_of
 kind-length Legacy = omega arith
 kind-length Production = omega arith
 
-pub head-length : (s : Summary) → length (head_of s) ≤ 72
+head-length : (s : Summary) → length (head_of s) ≤ 72
 unfolding head_of bytes_of
 head-length s =
     simp (length-append, digits-length) (omega (arith, kind-length s.kind, decimal-length s.lines, decimal-length s.configs))

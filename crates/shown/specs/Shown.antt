@@ -1,15 +1,13 @@
 -- What the printing program writes (document 01, "The printing program"). Assumes nothing.
-use Rattle.std.specs.Prelude.{ℕ, zero, suc, List, [], ◌++◌, get_or}
+use Rattle.std.specs.Prelude.{ℕ, zero, suc, List, [], ◌++◌, get_or, Ok, Err}
 use Rattle.counts.specs.declared.ConfigId.{ConfigId}
 use Rattle.counts.specs.declared.Kind.{Kind}
 use Rattle.counts.specs.declared.Kind.TheVariants.{Legacy, Production}
 use Rattle.counts.specs.Counts.{config_id}
 use Rattle.summary.specs.declared.Refusal.{Refusal}
-use Rattle.summary.specs.declared.FileAnswer.{FileAnswer}
-use Rattle.summary.specs.declared.FileAnswer.TheVariants.{Accepted, Refused}
 use Rattle.summary.specs.declared.Summary.{Summary}
 use Rattle.image.specs.Check.{check_of}
-use Rattle.summary.specs.Answers.{refusal_told}
+use Rattle.summary.specs.Answers.{FileAnswer, refusal_told}
 use Rattle.text.specs.Text.{bytes_of, space, line_end, hex, decimal}
 
 unfoldable pub kind_name : Kind → List ℕ
@@ -40,8 +38,8 @@ refused_text r =
     ++ decimal (refusal_told r).place.0 ++ line_end
 
 unfoldable pub answer_text : FileAnswer → Summary → List ℕ
-answer_text Accepted s = accepted_text s
-answer_text (Refused r) s = refused_text r
+answer_text (Ok tt) s = accepted_text s
+answer_text (Err r) s = refused_text r
 
 unfoldable pub shown : List ℕ → List ℕ
 shown text = answer_text (check_of text).answer (check_of text).summary

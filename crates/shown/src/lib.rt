@@ -1,93 +1,83 @@
 // What the printing program writes of a file (document 01, "The printing program"), made into a lent buffer.
 #![tactic(auto)]
 
-ghost use Rattle.std.specs.Prelude.{◌≡◌, ◌+◌, ◌≤◌, length};
+ghost use Rattle.std.specs.Prelude.{◌≤◌};
 ghost use Rattle.text.specs.Text.{Puts};
+ghost use Rattle.text.specs.Private.Pieces.{PutsIfRoom};
 ghost use Rattle.shown.specs.Shown.{kind_name, row_of, rows_to, head_of, accepted_text, refused_text, shown};
 
 use counts::{ConfigId, Kind};
-use summary::{FileAnswer, Refusal, Summary};
-use text::{put_bytes, put_decimal, put_hex1, put_hex8};
+use summary::{Refusal, Summary};
+use text::Page;
 
 #[tactic(auto, unfolding(crate::specs::Shown::kind_name, text::specs::Text::bytes_of))]
-fn put_kind(out: &mut [u8], at: usize, kind: Kind) -> usize
-    ensures { Puts out.old at (kind_name kind) out.new result }
+fn put_kind(page: &mut Page, kind: Kind)
+    ensures { PutsIfRoom page.old (kind_name kind) page.new }
 {
     match kind {
-        Kind::Legacy => put_bytes(out, at, b"legacy"),
-        Kind::Production => put_bytes(out, at, b"production"),
+        Kind::Legacy => page.bytes(b"legacy"),
+        Kind::Production => page.bytes(b"production"),
     }
 }
 
 // The line of one configuration: its identifier and its CRC.
-#[tactic(auto, using(text::proofs::Laws::run_one, text::proofs::Laws::run_more), unfolding(crate::specs::Shown::row_of))]
-fn put_row(out: &mut [u8], at: usize, id: ConfigId, crc: u32) -> usize
-    requires { at + 11 ≤ length out.old }
-    ensures { Puts out.old at (row_of id crc) out.new result }
+fn put_row(page: &mut Page, id: ConfigId, crc: u32)
+    ensures { PutsIfRoom page.old (row_of id crc) page.new }
 {
-    let a = put_hex1(out, at, id.0);
-    let b = put_bytes(out, a, b" ");
-    let c = put_hex8(out, b, crc);
-    put_bytes(out, c, b"\n")
+    page.hex::<1>(id.0 as u32);
+    page.bytes(b" ");
+    page.hex::<8>(crc);
+    page.bytes(b"\n");
 }
 
-// The lines of all configurations.
-#[tactic(auto, using(text::proofs::Laws::run_one, text::proofs::Laws::run_more, text::proofs::Laws::puts_none, text::proofs::Laws::puts_place), unfolding(crate::specs::Shown::rows_to))]
-fn put_rows(out: &mut [u8], at: usize, s: Summary) -> usize
-    requires { (s.configs ≤ 8) × (at + 88 ≤ length out.old) }
-    ensures { Puts out.old at (rows_to s s.configs) out.new result }
+// The lines of all configurations. By index: for a zip of the two arrays the invariant needs what is left of both, and is no plainer.
+fn put_rows(page: &mut Page, s: Summary)
+    requires { s.configs ≤ 8 }
+    ensures { PutsIfRoom page.old (rows_to s s.configs) page.new }
 {
-    let ids = s.ids;
-    let crcs = s.crcs;
-    let mut next = at;
-    let mut n: usize = 0;
-    while n < s.configs as usize {
-        next = put_row(out, next, ids[n], crcs[n]);
-        n += 1;
+    for n in 0..s.configs as usize {
+        put_row(page, s.ids[n], s.crcs[n]);
     }
-    next
 }
 
 // The first line of an accepted file.
-#[tactic(auto, using(text::proofs::Laws::run_one, text::proofs::Laws::run_more), unfolding(crate::specs::Shown::head_of, text::specs::Text::bytes_of))]
-fn put_head(out: &mut [u8], at: usize, s: Summary) -> usize
-    requires { at + 72 ≤ length out.old }
-    ensures { Puts out.old at (head_of s) out.new result }
+fn put_head(page: &mut Page, s: Summary)
+    ensures { PutsIfRoom page.old (head_of s) page.new }
 {
-    let kind = s.kind;
-    let a = put_bytes(out, at, b"ok ");
-    let b = put_kind(out, a, kind);
-    let c = put_bytes(out, b, b" ");
-    let d = put_hex8(out, c, s.identity);
-    let e = put_bytes(out, d, b" ");
-    let f = put_decimal(out, e, s.lines as u64);
-    let g = put_bytes(out, f, b" ");
-    let h = put_decimal(out, g, s.configs as u64);
-    put_bytes(out, h, b"\n")
+    page.bytes(b"ok ");
+    put_kind(page, s.kind);
+    page.bytes(b" ");
+    page.hex::<8>(s.identity);
+    page.bytes(b" ");
+    page.decimal(s.lines as u64);
+    page.bytes(b" ");
+    page.decimal(s.configs as u64);
+    page.bytes(b"\n");
 }
 
-#[tactic(auto, using(text::proofs::Laws::run_one, text::proofs::Laws::run_more, text::proofs::Laws::puts_place), unfolding(crate::specs::Shown::accepted_text))]
-fn put_accepted(out: &mut [u8], s: Summary) -> usize
-    requires { (s.configs ≤ 8) × (160 ≤ length out.old) }
+fn put_accepted(out: &mut [u8; 160], s: Summary) -> usize
+    requires { s.configs ≤ 8 }
     ensures { Puts out.old 0 (accepted_text s) out.new result }
 {
-    let next = put_head(out, 0, s);
-    put_rows(out, next, s)
+    let mut page = Page { room: out, at: 0 };
+    put_head(&mut page, s);
+    put_rows(&mut page, s);
+    page.at
 }
 
-#[tactic(auto, using(text::proofs::Laws::run_one, text::proofs::Laws::run_more), unfolding(crate::specs::Shown::refused_text, text::specs::Text::bytes_of))]
-fn put_refused(out: &mut [u8], r: Refusal) -> usize
-    requires { 160 ≤ length out.old }
+fn put_refused(out: &mut [u8; 160], r: Refusal) -> usize
     ensures { Puts out.old 0 (refused_text r) out.new result }
 {
     let told = r.told();
-    let a = put_bytes(out, 0, b"refused ");
-    let b = put_decimal(out, a, told.number as u64);
-    let c = put_bytes(out, b, b" line ");
-    let d = put_decimal(out, c, told.line.0 as u64);
-    let e = put_bytes(out, d, b" at ");
-    let f = put_decimal(out, e, told.place.0 as u64);
-    put_bytes(out, f, b"\n")
+    let mut page = Page { room: out, at: 0 };
+    page.bytes(b"refused ");
+    page.decimal(told.number as u64);
+    page.bytes(b" line ");
+    page.decimal(told.line.0 as u64);
+    page.bytes(b" at ");
+    page.decimal(told.place.0 as u64);
+    page.bytes(b"\n");
+    page.at
 }
 
 // Writes what the program prints of a file at the start of the buffer, and answers how many bytes that is.
@@ -96,10 +86,8 @@ pub fn show(text: &[u8], out: &mut [u8; 160]) -> usize
     ensures { Puts out.old 0 (shown text.now) out.new result }
 {
     let checked = image::check(text);
-    let answer = checked.answer;
-    let summary = checked.summary;
-    match answer {
-        FileAnswer::Accepted => put_accepted(out, summary),
-        FileAnswer::Refused(r) => put_refused(out, r),
+    match checked.answer {
+        Ok(()) => put_accepted(out, checked.summary),
+        Err(r) => put_refused(out, r),
     }
 }

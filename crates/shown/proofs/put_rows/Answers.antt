@@ -1,22 +1,13 @@
--- Before turn n the lines of the first n configurations stand there. Assumes nothing.
-use Rattle.std.proofs.Common.{suc, arith, add-one, rules}
-use Rattle.text.proofs.Laws.{run_one, run_more, puts_none, puts-length, puts_place}
+-- A turn is one more line. Assumes nothing.
+use Rattle.std.proofs.Common.{add-one}
+use Rattle.text.proofs.Laws.{none, both}
 use Rattle.shown.specs.Shown.{rows_to}
-use Rattle.shown.proofs.Lengths.{rows-length}
 use Rattle.shown.proofs.put_rows.Goals as goal
 
 pub loop-n-init : goal.loop-n-init
 unfolding rows_to
-loop-n-init c = (search rules, puts_none c.args.out.now c.args.at)
-
-pub put_row-next-requires : goal.put_row-next-requires
-put_row-next-requires c =
-    let long = rows-length c.args.s c.loop-n.n in
-    omega (arith, long, puts-length c.loop-n.invariant.1, puts_place c.loop-n.invariant.1 (omega (arith, long)))
+loop-n-init c = none _
 
 pub loop-n-preserved : goal.loop-n-preserved
 unfolding rows_to
-loop-n-preserved c = (
-  search rules,
-  rw add-one ((run_more (run_one c.loop-n.invariant.1) c.put_row-next.ensures).fitting (omega (arith, rows-length c.args.s (suc c.loop-n.n)))),
-)
+loop-n-preserved c = rw add-one (both c.loop-n.invariant c.put_row.ensures)

@@ -5,14 +5,14 @@ use Rattle.session.specs.Begin.{answered_of}
 use Rattle.session.proofs.Laws.{begin_answered}
 use Rattle.session.proofs.Settings.begin.Goals as goal
 
-pub returns-in-Accepted : goal.returns-in-Accepted
+pub returns-in-Ok : goal.returns-in-Ok
 unfolding answered_of
-returns-in-Accepted c =
+returns-in-Ok c =
     c.begin_with.ensures
-    ∙ begin_answered _ _ _ _ c.check-checked.ensures (via c.allowed.ensures c.if-allowed.true) c.in-Accepted.is
+    ∙ begin_answered _ _ _ _ c.check-checked.ensures (via c.allowed.ensures c.if-allowed.true) c.in-Ok.is
 
-pub returns-in-Refused : goal.returns-in-Refused
+pub returns-in-Err : goal.returns-in-Err
 unfolding answered_of
-returns-in-Refused c =
+returns-in-Err c =
     c.refused.ensures
-    ∙ begin_answered _ _ _ _ c.check-checked.ensures (via c.allowed.ensures c.if-allowed.true) c.in-Refused.is
+    ∙ begin_answered _ _ _ _ c.check-checked.ensures (via c.allowed.ensures c.if-allowed.true) c.in-Err.is
