@@ -1,61 +1,65 @@
--- The file of an input that is whole lies within it, and so does the one in part. Assumes nothing.
+-- The file of an input that is whole lies within it, and so does the one in front. Assumes nothing.
 use mathlib.Core.Path.{◌≡◌, refl, sym}
-use mathlib.Core.Bool.{Bool, true, false, cond}
+use mathlib.Core.Bool.{cond}
 use mathlib.Core.List.{List}
 use Prim.Native.Nat.{ℕ, ◌+◌, ◌-◌, ◌≤◌}
 use native.Mathlib.Omega.{arith}
 use lib.Dec.{ltb}
 use lib.ListN.{length}
 use borrow.Author.Tests.{ltb-false}
+use Rattle.std.specs.Prelude.{Result, Ok, Err}
 use Rattle.promise.proofs.Basics.{split}
 use Rattle.dryrun.specs.declared.Header.{Header}
-use Rattle.dryrun.specs.declared.Part.{Part}
-use Rattle.dryrun.specs.declared.Part.TheVariants as part
-use Rattle.dryrun.specs.declared.Input.{Input}
-use Rattle.dryrun.specs.declared.Input.TheVariants.{CutShort, TooLong, Whole}
+use Rattle.dryrun.specs.declared.Unfit.{Unfit}
+use Rattle.dryrun.specs.declared.Unfit.TheVariants.{CutShort, TooLong}
 use Rattle.tape.specs.Replies.{whole_replies}
-use Rattle.dryrun.specs.Parts.{length_at, file_at, file_length, header_of, front_of, input_of}
+use Rattle.dryrun.specs.Parts.{length_at, file_at, file_length, settings_of, header_of, behind_of, front_of, input_of}
 
--- a test that an input which is whole has passed
-must_not : {A : Type 0} (t : Bool) (x y : Input) (h : Header) → cond t x y ≡ Whole h → (x ≡ Whole h → A) → (t ≡ false → y ≡ Whole h → A) → A
-must_not true x y h e stop go = stop e
-must_not false x y h e stop go = go refl e
+-- an input of which the place behind its file is found: the replies are looked at
+unfoldable pub run_of : List ℕ → Result ℕ Unfit → Result Header Unfit
+run_of s (Err unfit) = Err unfit
+run_of s (Ok behind) =
+    cond (ltb 200000 (length s - behind)) (Err TooLong)
+    (cond (whole_replies (length s) s behind) (Ok (record { settings = settings_of s; behind = behind })) (Err CutShort))
 
-cut : {A : Type 0} (h : Header) → CutShort ≡ Whole h → A
-cut h e = let y : ◌≡◌ {A = ℕ} 0 1 = cc in absurd (let no : ⊥ = omega arith in no)
+pub input_right : (s : List ℕ) → input_of s ≡ run_of s (behind_of s 6)
+unfolding input_of run_of behind_of header_of
+input_right s =
+    split (ltb (length s) file_at) (λ t. rw t)
+    (λ t. split (ltb 65600 (file_length s)) (λ u. rw (t, u))
+    (λ u. split (ltb (length s) (file_at + file_length s)) (λ v. rw (t, u, v))
+    (λ v. let e : length s - file_at - file_length s ≡ length s - (file_at + file_length s) = omega arith in rw (t, u, v, e))))
 
-long : {A : Type 0} (h : Header) → TooLong ≡ Whole h → A
-long h e = let y : ◌≡◌ {A = ℕ} 0 1 = cc in absurd (let no : ⊥ = omega arith in no)
+pub record Lies (s : List ℕ) (at behind : ℕ) : Type 0 where
+  pub start : at + 4 ≤ behind
+  pub inside : behind ≤ length s
 
-pub header_within : (s : List ℕ) (h : Header) → input_of s ≡ Whole h → (file_at ≤ h.behind) × (h.behind ≤ length s)
-unfolding input_of header_of
-header_within s h e =
-    must_not (ltb (length s) file_at) CutShort _ h e (cut h) (λ t1 e1.
-    must_not (ltb 65600 (file_length s)) TooLong _ h e1 (long h) (λ t2 e2.
-    must_not (ltb (length s) (file_at + file_length s)) CutShort _ h e2 (cut h) (λ t3 e3.
-    must_not (ltb 200000 (length s - file_at - file_length s)) TooLong _ h e3 (long h) (λ t4 e4.
-    split (whole_replies (length s) s (file_at + file_length s))
-    (λ t5.
-    let z : Whole (header_of s (file_length s)) ≡ Whole h = rw t5 at e4 in
-    let b : header_of s (file_length s) ≡ h = cc in
-    rw (sym b) (omega arith, ltb-false (length s) (file_at + file_length s) t3))
-    (λ t5. cut h (rw t5 at e4))))))
+pub behind_within : (s : List ℕ) (at behind : ℕ) → behind_of s at ≡ Ok behind → Lies s at behind
+unfolding behind_of
+behind_within s at behind e =
+    split (ltb (length s) (at + 4)) (λ t. let z : ◌≡◌ {A = Result ℕ Unfit} (Err CutShort) (Ok behind) = rw t at e in absurd cc)
+    (λ t. split (ltb 65600 (length_at s at)) (λ u. let z : ◌≡◌ {A = Result ℕ Unfit} (Err TooLong) (Ok behind) = rw (t, u) at e in absurd cc)
+    (λ u. split (ltb (length s) (at + 4 + length_at s at)) (λ v. let z : ◌≡◌ {A = Result ℕ Unfit} (Err CutShort) (Ok behind) = rw (t, u, v) at e in absurd cc)
+    (λ v.
+    let z : ◌≡◌ {A = Result ℕ Unfit} (Ok (at + 4 + length_at s at)) (Ok behind) = rw (t, u, v) at e in
+    let same : at + 4 + length_at s at ≡ behind = cc in
+    record { start = omega arith; inside = omega (arith, ltb-false (length s) (at + 4 + length_at s at) v) })))
 
-pub front_within : (s : List ℕ) (behind : ℕ) → front_of s ≡ part.Whole behind → (4 ≤ behind) × (behind ≤ length s)
-unfolding front_of
-front_within s behind e =
-    not_whole (ltb (length s) 4) part.CutShort _ e (λ f. cut_front f) (λ t1 e1.
-    not_whole (ltb 65600 (length_at s 0)) part.TooLong _ e1 (λ f. long_front f) (λ t2 e2.
-    not_whole (ltb (length s) (4 + length_at s 0)) part.CutShort _ e2 (λ f. cut_front f) (λ t3 e3.
-    let same : 4 + length_at s 0 ≡ behind = cc in
-    (omega (arith, same), omega (arith, same, ltb-false (length s) (4 + length_at s 0) t3)))))
+pub header_within : (s : List ℕ) (h : Header) → input_of s ≡ Ok h → Lies s 6 h.behind
+unfolding run_of
+header_within s h e = within (behind_of s 6) refl (rw (input_right s) at e)
   where
-    not_whole : {A : Type 0} (t : Bool) (x y : Part) → cond t x y ≡ part.Whole behind → (x ≡ part.Whole behind → A) → (t ≡ false → y ≡ part.Whole behind → A) → A
-    not_whole true x y e stop go = stop e
-    not_whole false x y e stop go = go refl e
+    within : (found : Result ℕ Unfit) → behind_of s 6 ≡ found → run_of s found ≡ Ok h → Lies s 6 h.behind
+    within (Err unfit) b r = absurd cc
+    within (Ok behind) b r =
+        split (ltb 200000 (length s - behind)) (λ t. let z : ◌≡◌ {A = Result Header Unfit} (Err TooLong) (Ok h) = rw t at r in absurd cc)
+        (λ t. split (whole_replies (length s) s behind)
+        (λ u.
+        let z : ◌≡◌ {A = Result Header Unfit} (Ok (record { settings = settings_of s; behind = behind })) (Ok h) = rw (t, u) at r in
+        let same : record { settings = settings_of s; behind = behind } ≡ h = cc in
+        rw (sym same) (behind_within s 6 behind b))
+        (λ u. let z : ◌≡◌ {A = Result Header Unfit} (Err CutShort) (Ok h) = rw (t, u) at r in absurd cc))
 
-    cut_front : {A : Type 0} → part.CutShort ≡ part.Whole behind → A
-    cut_front e = let y : ◌≡◌ {A = ℕ} 0 1 = cc in absurd (let no : ⊥ = omega arith in no)
-
-    long_front : {A : Type 0} → part.TooLong ≡ part.Whole behind → A
-    long_front e = let y : ◌≡◌ {A = ℕ} 0 1 = cc in absurd (let no : ⊥ = omega arith in no)
+pub front_within : (s : List ℕ) (behind : ℕ) → front_of s ≡ Ok behind → Lies s 0 behind
+unfolding front_of
+front_within s behind e = behind_within s 0 behind e

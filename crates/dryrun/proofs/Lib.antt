@@ -1,3 +1,4 @@
 pub mod Lengths
 pub mod Inside
+pub mod Written
 pub mod OneAnswer

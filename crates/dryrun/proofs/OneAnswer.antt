@@ -6,8 +6,8 @@ use Prim.Native.Nat.{ℕ}
 use Rattle.bus.specs.declared.Request.{Request}
 use Rattle.text.proofs.OneAnswer.{OnePut, one-put}
 use mathlib.Core.Bool.{Bool}
+use Rattle.std.specs.Prelude.{Option}
 use Rattle.summary.specs.declared.Told.{Told}
-use Rattle.session.specs.declared.Report.{Report}
 use Rattle.dryrun.specs.Parts.{front_of, input_of}
 use Rattle.dryrun.specs.Lines.{count_line, checked_line, report_line, request_line}
 use Rattle.promise.specs.One.{One}
@@ -25,7 +25,7 @@ one-put_checked out told = one-put
 pub one-put_request : (out : List ℕ) (q : Request) → OnePut out 0 (request_line q)
 one-put_request out q = one-put
 
-pub one-put_report : (out : List ℕ) (report : Report) → OnePut out 0 (report_line report)
+pub one-put_report : (out : List ℕ) (report : Option Told) → OnePut out 0 (report_line report)
 one-put_report out report = one-put
 
 pub one-put_count : (out : List ℕ) (sent : ℕ) (burned : Bool) → OnePut out 0 (count_line sent burned)

@@ -1,13 +1,12 @@
 -- The input of a dry run: a byte whether step 1 is wanted, two bytes poll limit, a byte RESTORE_CFG code, a byte house rule, a byte
 -- write address, four bytes file length, the file, then replies as in tape; numbers lowest byte first. Assumes nothing.
-use Rattle.std.specs.Prelude.{ℕ, ◌+◌, ◌*◌, ◌-◌, cond, List, ltb, length}
+use Rattle.std.specs.Prelude.{ℕ, ◌+◌, ◌*◌, ◌-◌, cond, List, ltb, length, Result, Ok, Err}
 use Rattle.session.specs.declared.Settings.{Settings}
 use Rattle.tape.specs.Replies.{byte, whole_replies}
 use Rattle.dryrun.specs.declared.Header.{Header}
-use Rattle.dryrun.specs.declared.Input.{Input}
-use Rattle.dryrun.specs.declared.Part.{Part}
-use Rattle.dryrun.specs.declared.Part.TheVariants as part
-use Rattle.dryrun.specs.declared.Input.TheVariants.{CutShort, TooLong, Whole}
+use Rattle.dryrun.specs.declared.Unfit.{Unfit}
+use Rattle.dryrun.specs.declared.Unfit.TheVariants.{CutShort, TooLong}
+use Rattle.text.specs.Text.{bytes_of}
 
 -- two bytes, lowest first
 unfoldable pub pair : ℕ → ℕ → ℕ
@@ -32,18 +31,27 @@ settings_of s =
 unfoldable pub header_of : List ℕ → ℕ → Header
 header_of s file = record { settings = settings_of s; behind = file_at + file }
 
+-- the place behind the file whose length stands at a place; room for a file of 65,600 bytes
+unfoldable pub behind_of : List ℕ → ℕ → Result ℕ Unfit
+behind_of s at =
+    cond (ltb (length s) (at + 4)) (Err CutShort)
+    (cond (ltb 65600 (length_at s at)) (Err TooLong)
+    (cond (ltb (length s) (at + 4 + length_at s at)) (Err CutShort) (Ok (at + 4 + length_at s at))))
+
 -- in front of a dry run's input, a file with its length: the place behind it
-unfoldable pub front_of : List ℕ → Part
-front_of s =
-    cond (ltb (length s) 4) part.CutShort
-    (cond (ltb 65600 (length_at s 0)) part.TooLong
-    (cond (ltb (length s) (4 + length_at s 0)) part.CutShort (part.Whole (4 + length_at s 0))))
+unfoldable pub front_of : List ℕ → Result ℕ Unfit
+front_of s = behind_of s 0
 
 -- room for a file of 65,600 bytes and 200,000 bytes of replies; what is missing at the end is cut short
-unfoldable pub input_of : List ℕ → Input
+unfoldable pub input_of : List ℕ → Result Header Unfit
 input_of s =
-    cond (ltb (length s) file_at) CutShort
-    (cond (ltb 65600 (file_length s)) TooLong
-    (cond (ltb (length s) (file_at + file_length s)) CutShort
-    (cond (ltb 200000 (length s - file_at - file_length s)) TooLong
-    (cond (whole_replies (length s) s (file_at + file_length s)) (Whole (header_of s (file_length s))) CutShort))))
+    cond (ltb (length s) file_at) (Err CutShort)
+    (cond (ltb 65600 (file_length s)) (Err TooLong)
+    (cond (ltb (length s) (file_at + file_length s)) (Err CutShort)
+    (cond (ltb 200000 (length s - file_at - file_length s)) (Err TooLong)
+    (cond (whole_replies (length s) s (file_at + file_length s)) (Ok (header_of s (file_length s))) (Err CutShort)))))
+
+-- what a program writes of an input that is not run, and nothing else
+unfoldable pub unfit_words : Unfit → List ℕ
+unfit_words CutShort = bytes_of "cut short"
+unfit_words TooLong = bytes_of "too long"

@@ -1,29 +1,34 @@
 -- What the simulated regulator answers: at its own address, in form, from what it holds (document 01, "The session"; document 02, R-2).
 -- Assumes nothing.
-use Rattle.std.specs.Prelude.{ℕ, cond, [], ◌∷◌, ◌++◌, ◌==◌, slice_index}
+use Rattle.std.specs.Prelude.{ℕ, cond, List, [], ◌∷◌, ◌++◌, ◌==◌, slice_index}
 use Rattle.bus.specs.Bus.{read_address, word_bytes}
 use Rattle.bus.specs.declared.Request.{Request}
 use Rattle.pec.specs.Pec.{pec}
 use Rattle.host.specs.declared.Regulator.{Regulator}
 use Rattle.host.specs.declared.Reply.{Reply}
+use Rattle.host.specs.declared.Reply.TheVariants.{Silent, Took, Word, Block}
 
--- not acknowledged
-unfoldable pub silent : Reply
-silent = record { kind = 0; count = 0; bytes = 0 ∷ 0 ∷ 0 ∷ 0 ∷ 0 ∷ 0 ∷ [] }
+-- the number that the session takes a reply by: not acknowledged, or done
+unfoldable pub kind_of : Reply → ℕ
+kind_of Silent = 0
+kind_of Took = 1
+kind_of (Word bs) = 1
+kind_of (Block bs) = 1
 
--- a write that was taken
-unfoldable pub took : Reply
-took = record { kind = 1; count = 0; bytes = 0 ∷ 0 ∷ 0 ∷ 0 ∷ 0 ∷ 0 ∷ [] }
+-- the bytes of a reply that are handed on
+unfoldable pub handed : Reply → List ℕ
+handed Silent = []
+handed Took = []
+handed (Word bs) = bs
+handed (Block bs) = bs
 
 -- four bytes, lowest first, and their PEC
 unfoldable pub word_reply : ℕ → ℕ → ℕ → Reply
-word_reply address command w =
-    record { kind = 1; count = 5; bytes = word_bytes w ++ (pec (address ∷ command ∷ read_address address ∷ word_bytes w) ∷ 0 ∷ []) }
+word_reply address command w = Word (word_bytes w ++ (pec (address ∷ command ∷ read_address address ∷ word_bytes w) ∷ []))
 
 -- the count 4, four bytes, lowest first, and their PEC
 unfoldable pub block_reply : ℕ → ℕ → ℕ → Reply
-block_reply address command w =
-    record { kind = 1; count = 6; bytes = 4 ∷ (word_bytes w ++ (pec (address ∷ command ∷ read_address address ∷ 4 ∷ word_bytes w) ∷ [])) }
+block_reply address command w = Block (4 ∷ (word_bytes w ++ (pec (address ∷ command ∷ read_address address ∷ 4 ∷ word_bytes w) ∷ [])))
 
 -- what the register that was pointed to shows
 unfoldable pub value_of : Regulator → ℕ
@@ -41,8 +46,8 @@ read_reply d command =
 
 -- to a request that it hears
 unfoldable pub heard_reply : Regulator → Request → Reply
-heard_reply d q = cond (d.lasts == 0) silent (cond q.reads (read_reply d (slice_index q.bytes 1)) took)
+heard_reply d q = cond (d.lasts == 0) Silent (cond q.reads (read_reply d (slice_index q.bytes 1)) Took)
 
 -- what is for another address it does not acknowledge
 unfoldable pub device_reply : Regulator → Request → Reply
-device_reply d q = cond (slice_index q.bytes 0 == d.address) (heard_reply d q) silent
+device_reply d q = cond (slice_index q.bytes 0 == d.address) (heard_reply d q) Silent

@@ -5,7 +5,8 @@
 
 mod device;
 
-use session::{Answer, Report, Session, Settings};
+use session::{Answer, Session, Settings};
+use std::io;
 use summary::{Summary, Told};
 
 // A simulated regulator. It judges nothing, and answers at its address, in form while it lasts (specs/Statements.antt).
@@ -30,17 +31,13 @@ struct Regulator {
     pub burns: u32,
 }
 
+// What comes back: nothing, that a write was taken, or the bytes that were read, of which there are two sizes; no Option is plainer.
 #[derive(Clone, Copy)]
-struct Reply {
-    pub kind: u8,
-    pub count: usize,
-    pub bytes: [u8; 6],
-}
-
-#[derive(Clone, Copy)]
-struct Carried {
-    pub regulator: Regulator,
-    pub reply: Reply,
+enum Reply {
+    Silent,
+    Took,
+    Word([u8; 5]),
+    Block([u8; 6]),
 }
 
 // What a run leaves.
@@ -56,171 +53,151 @@ const MOST: u32 = 12949;
 
 // The loop to copy. Begin with the summary that the morning's check gave; then carry each request to the device and its reply back, with
 // the file that was checked, until there is no request. In the place of `exchange` stands the station's bus.
-#[tactic(auto, using(std::proofs::Common::sym, std::proofs::Common::rules, crate::proofs::Within::reply_within))]
 fn program(settings: Settings, summary: Summary, file: &[u8], device: Regulator) -> Run {
     let mut handed = settings.begin_with(summary);
     let mut regulator = device;
-    for turn in 0..MOST {
-        let request = handed.request;
-        if request.used == 0 {
+    for _ in 0..MOST {
+        if handed.request.used == 0 {
             break;
         }
-        let carried = regulator.exchange(request);
-        regulator = carried.regulator;
-        let reply = carried.reply;
-        let bytes = reply.bytes;
-        let count = reply.count;
-        let session = handed.session;
-        handed = session.reply(file, reply.kind, &bytes[..count]);
+        let reply = regulator.exchange(handed.request);
+        handed = handed.session.reply(file, reply.kind(), reply.bytes());
     }
-    let answer = handed.answer;
-    let session = handed.session;
     Run {
-        answer: answer,
-        session: session,
-        regulator: regulator,
+        answer: handed.answer,
+        session: handed.session,
+        regulator,
     }
 }
 
-fn say(rt: &impl Print, words: &[u8]) {
-    let _ = rt.write_all(words);
-}
-
-fn say_count(rt: &impl Print, words: &[u8], number: u32) {
-    say(rt, words);
-    let _ = rt.print(number as u64);
-}
-
-fn say_report(rt: &impl Print, report: Report) {
+fn say_report(rt: &impl Print, report: Option<Told>) -> io::Result<()> {
     match report {
-        Report::Waiting => say(rt, b"waiting"),
-        Report::Is(told) => {
-            if told.number == 0 {
-                say(rt, b"DONE");
-            } else {
-                say(rt, b"verdict ");
-                let _ = rt.print(told.number as u64);
-            }
-        }
+        None => print!(rt; "waiting"),
+        Some(told) if told.number == 0 => print!(rt; "DONE"),
+        Some(told) => print!(rt; "verdict {}", told.number),
     }
 }
 
 // What the session reports, and what the regulator saw of it.
-fn say_run(rt: &impl Print, run: Run) {
-    let answer = run.answer;
-    say(rt, b"  session: ");
-    say_report(rt, answer.report());
-    say_count(rt, b", requests ", run.session.sent);
-    if run.session.burned {
-        say(rt, b", burn put out\n");
+fn say_run(rt: &impl Print, run: Run) -> io::Result<()> {
+    let burn = if run.session.burned {
+        "put out"
     } else {
-        say(rt, b", burn not put out\n");
-    }
-    say_count(rt, b"  regulator: requests ", run.regulator.heard);
-    say_count(rt, b", busy polls ", run.regulator.waited);
-    say_count(rt, b", burns ", run.regulator.burns);
-    say(rt, b"\n");
+        "not put out"
+    };
+    let seen = run.regulator;
+    print!(rt; "  session: ")?;
+    say_report(rt, run.answer.report())?;
+    println!(rt; ", requests {}, burn {burn}", run.session.sent)?;
+    print!(rt; "  regulator: requests {}", seen.heard)?;
+    println!(rt; ", busy polls {}, burns {}", seen.waited, seen.burns)
 }
 
 // What the morning's check says: whether there is anything to begin with.
-fn say_checked(rt: &impl Print, told: Told) -> bool {
+fn say_checked(rt: &impl Print, told: Told) -> io::Result<()> {
     if told.number == 0 {
-        say(rt, b"checked in the morning: accepted\n");
-        return true;
+        return println!(rt; "checked in the morning: accepted");
     }
-    say_count(
-        rt,
-        b"checked in the morning: refused, number ",
-        told.number as u32,
-    );
-    say_count(rt, b", line ", told.line.0);
-    say(rt, b", place ");
-    let _ = rt.print(told.place.0 as u64);
-    say(rt, b"\n");
-    false
+    let number = told.number;
+    let line = told.line.0;
+    let place = told.place.0;
+    println!(rt; "checked in the morning: refused, number {number}, line {line}, place {place}")
 }
 
-// One regulator after the other, each in its own way.
-fn boards(rt: &impl Print, settings: Settings, summary: Summary, file: &[u8]) {
+// One regulator after the other, each in its own way. Settings, summary and text stay three, as a station holds them: the loop to copy
+// is called with them, and with a struct it would not be plainer.
+fn boards(rt: &impl Print, settings: Settings, summary: Summary, file: &[u8]) -> io::Result<()> {
     let fitting = Regulator::fitting(summary, 0xC0);
 
-    say(rt, b"a regulator that fits the file\n");
-    say_run(rt, program(settings, summary, file, fitting));
+    println!(rt; "a regulator that fits the file")?;
+    say_run(rt, program(settings, summary, file, fitting))?;
 
-    say(
-        rt,
-        b"a regulator that acknowledges 200 requests and no more\n",
-    );
-    let mut failing = fitting;
-    failing.lasts = 200;
-    say_run(rt, program(settings, summary, file, failing));
+    println!(rt; "a regulator that acknowledges 200 requests and no more")?;
+    let failing = Regulator {
+        lasts: 200,
+        ..fitting
+    };
+    say_run(rt, program(settings, summary, file, failing))?;
 
-    say(rt, b"a regulator whose counter shows 29\n");
-    let mut strange = fitting;
-    strange.counter = 29;
-    say_run(rt, program(settings, summary, file, strange));
+    println!(rt; "a regulator whose counter shows 29")?;
+    let strange = Regulator {
+        counter: 29,
+        ..fitting
+    };
+    say_run(rt, program(settings, summary, file, strange))?;
 
-    say(
-        rt,
-        b"a regulator with one place more than the file needs, under rule 2\n",
-    );
+    println!(rt; "a regulator with one place more than the file needs, under rule 2")?;
     let scarce = fitting.left_with(summary.configs as u32 + 1);
-    let mut keeping = settings;
-    keeping.rule = 2;
-    say_run(rt, program(keeping, summary, file, scarce));
+    let keeping = Settings {
+        rule: 2,
+        ..settings
+    };
+    say_run(rt, program(keeping, summary, file, scarce))?;
 
-    say(rt, b"the same regulator, under rule 1\n");
-    say_run(rt, program(settings, summary, file, scarce));
+    println!(rt; "the same regulator, under rule 1")?;
+    say_run(rt, program(settings, summary, file, scarce))
+}
 
-    say(rt, b"a regulator that fits the file, at address 20\n");
+// One that does not answer at C0.
+fn elsewhere(rt: &impl Print, settings: Settings, summary: Summary, file: &[u8]) -> io::Result<()> {
+    println!(rt; "a regulator that fits the file, at address 20")?;
     let strapped = Regulator::fitting(summary, 0x20);
-    let mut elsewhere = settings;
-    elsewhere.address = 0x20;
-    say_run(rt, program(elsewhere, summary, file, strapped));
+    let moved = Settings {
+        address: 0x20,
+        ..settings
+    };
+    say_run(rt, program(moved, summary, file, strapped))?;
 
-    say(rt, b"the same regulator, asked at address C0\n");
-    say_run(rt, program(settings, summary, file, strapped));
+    println!(rt; "the same regulator, asked at address C0")?;
+    say_run(rt, program(settings, summary, file, strapped))
 }
 
 // A summary serves as many boards as there are, and is of one text.
-fn on_one_check(rt: &impl Print, settings: Settings, summary: Summary, file: &[u8]) {
+fn on_one_check(
+    rt: &impl Print,
+    settings: Settings,
+    summary: Summary,
+    file: &[u8],
+) -> io::Result<()> {
     let fitting = Regulator::fitting(summary, 0xC0);
 
-    say(
-        rt,
-        b"four boards on the one check, the third with a counter of 29\n",
-    );
-    let mut strange = fitting;
-    strange.counter = 29;
-    say_run(rt, program(settings, summary, file, fitting));
-    say_run(rt, program(settings, summary, file, fitting));
-    say_run(rt, program(settings, summary, file, strange));
-    say_run(rt, program(settings, summary, file, fitting));
+    println!(rt; "four boards on the one check, the third with a counter of 29")?;
+    let strange = Regulator {
+        counter: 29,
+        ..fitting
+    };
+    say_run(rt, program(settings, summary, file, fitting))?;
+    say_run(rt, program(settings, summary, file, fitting))?;
+    say_run(rt, program(settings, summary, file, strange))?;
+    say_run(rt, program(settings, summary, file, fitting))?;
 
-    say(
-        rt,
-        b"a regulator that fits the file, while another text is lent\n",
-    );
-    say_run(rt, program(settings, summary, b"another text\n", fitting));
+    println!(rt; "a regulator that fits the file, while another text is lent")?;
+    say_run(rt, program(settings, summary, b"another text\n", fitting))
+}
+
+// The morning's check, and where it accepts, the boards.
+fn morning(rt: &impl Print, file: &[u8]) -> io::Result<()> {
+    let checked = image::check(file);
+    say_checked(rt, checked.told())?;
+    if checked.answer.is_err() {
+        return Ok(());
+    }
+    let settings = Settings {
+        wanted: true,
+        limit: 10,
+        restore: device::RESTORE,
+        rule: 1,
+        address: 0xC0,
+    };
+    boards(rt, settings, checked.summary, file)?;
+    elsewhere(rt, settings, checked.summary, file)?;
+    on_one_check(rt, settings, checked.summary, file)
 }
 
 fn main(rt: HostRuntime) {
     // One byte more than a file may have, so that a longer one is seen to be longer.
     let mut space = [0u8; 65537];
     let n = streams::fill(&mut rt.reader(), &mut space);
-    let file = &space[..n];
-    let checked = image::check(file);
-    let answer = checked.answer;
-    if say_checked(&rt, answer.told()) {
-        let summary = checked.summary;
-        let settings = Settings {
-            wanted: true,
-            limit: 10,
-            restore: device::RESTORE,
-            rule: 1,
-            address: 0xC0,
-        };
-        boards(&rt, settings, summary, file);
-        on_one_check(&rt, settings, summary, file);
-    }
+    // What could not be written is passed over.
+    let _ = morning(&rt, &space[..n]);
 }

@@ -7,10 +7,10 @@ ghost use Rattle.measured.specs.Replies.{fed_of, sent_after};
 ghost use Rattle.measured.specs.Begin.{summary_with, sent_at_begin};
 
 use counts::{ConfigId, Kind};
-use dryrun::{FILE_AT, Input};
+use dryrun::FILE_AT;
 use session::{Session, Settings};
 use summary::Summary;
-use tape::Found;
+use tape::Replies;
 
 // The register after some bytes, by a table that the caller has made once.
 #[unsafe(no_mangle)]
@@ -21,25 +21,16 @@ pub extern "C" fn measured_run_with(table: &[u8; 256], register: u8, bytes: &[u8
 }
 
 // The session once it was given so many of the replies from a place of the input on, or those that there are.
-#[tactic(auto, using(tape::proofs::Whole::found_within, crate::proofs::Turns::after_step), unfolding(crate::specs::Replies::fed_by, crate::specs::Replies::fed_of))]
+#[tactic(auto, using(crate::proofs::Turns::after_step), unfolding(crate::specs::Replies::fed_by, crate::specs::Replies::fed_of))]
 fn fed(begun: Session, input: &[u8], file: &[u8], from: usize, replies: u32) -> Session
     ensures { result ≡ fed_of input.now file.now replies from begun }
 {
     let mut s = begun;
-    let mut at = from;
-    let mut left = replies;
-    while 0 < left {
-        left -= 1;
-        let found = tape::reply_at(input, at);
-        match found {
-            Found::End => return s,
-            Found::Reply(kind, start, end) => {
-                let handed = s.reply(file, kind, &input[start..end]);
-                s = handed.session;
-                at = end;
-            }
-            Found::Part => return s,
-        }
+    for reply in (Replies { input, at: from }).take(replies as usize) {
+        let Ok((kind, bytes)) = reply else {
+            return s;
+        };
+        s = s.reply(file, kind, bytes).session;
     }
     s
 }
@@ -50,19 +41,12 @@ fn fed(begun: Session, input: &[u8], file: &[u8], from: usize, replies: u32) -> 
 pub extern "C" fn measured_replies(input: &[u8], replies: u32) -> u32
     ensures { result ≡ sent_after input.now replies }
 {
-    let parsed = dryrun::parse(input);
-    match parsed {
-        Input::CutShort => 0,
-        Input::TooLong => 0,
-        Input::Whole(header) => {
-            let settings = header.settings;
-            let behind = header.behind;
-            let file = &input[FILE_AT..behind];
-            let begun = settings.begin(file);
-            let s = fed(begun.session, input, file, behind, replies);
-            s.sent
-        }
-    }
+    let Ok(header) = dryrun::parse(input) else {
+        return 0;
+    };
+    let file = &input[FILE_AT..header.behind];
+    let begun = header.settings.begin(file);
+    fed(begun.session, input, file, header.behind, replies).sent
 }
 
 // The summary of a production file with this n and k, this place of line 5 and these identifiers.
@@ -73,9 +57,10 @@ fn summary_with(lines: u32, configs: u8, line5: usize, ids: &[u8; 8]) -> Summary
     Summary {
         kind: Kind::Production,
         identity: 0x49D28100,
-        lines: lines,
-        configs: configs,
-        line5: line5,
+        lines,
+        configs,
+        line5,
+        // One by one: with `map` the proof did not close.
         ids: [
             ConfigId(ids[0]),
             ConfigId(ids[1]),
@@ -103,7 +88,6 @@ pub extern "C" fn measured_begin(lines: u32, configs: u8, line5: usize, ids: &[u
         rule: 1,
         address: 0xC2,
     };
-    let begun = settings.begin_with(summary_with(lines, configs, line5, ids));
-    let s = begun.session;
-    s.sent
+    let summary = summary_with(lines, configs, line5, ids);
+    settings.begin_with(summary).session.sent
 }

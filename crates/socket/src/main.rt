@@ -3,12 +3,12 @@
 // `dryrun`, what is checked by `image`, and each request and verdict by `session`.
 #![tactic(auto)]
 
-use bus::Request;
-use dryrun::{FILE_AT, Input, LENGTH_BYTES, Part};
-use session::{Handed, Session};
+use dryrun::{FILE_AT, LENGTH_BYTES, Unfit};
+use std::io;
 use summary::Told;
-use tape::Found;
+use tape::Replies;
 
+// What could not be written is passed over.
 #[tactic(auto, using(text::proofs::Laws::puts_inside, text::proofs::Laws::puts_taken))]
 fn say_checked(rt: &impl Print, told: Told) {
     let mut line = [0u8; 112];
@@ -16,92 +16,27 @@ fn say_checked(rt: &impl Print, told: Told) {
     let _ = rt.write_all(&line[..n]);
 }
 
-// A request of zeros is none.
-#[tactic(auto, using(text::proofs::Laws::puts_inside, text::proofs::Laws::puts_taken))]
-fn say_request(rt: &impl Print, q: Request) {
-    if 0 < q.used {
-        let mut line = [0u8; 32];
-        let n = dryrun::put_request(&mut line, q);
-        let _ = rt.write_all(&line[..n]);
-    }
-}
-
-#[tactic(auto, using(text::proofs::Laws::puts_inside, text::proofs::Laws::puts_taken))]
-fn say_end(rt: &impl Print, s: Session, report: session::Report) {
-    let mut verdict = [0u8; 112];
-    let n = dryrun::put_report(&mut verdict, report);
-    let _ = rt.write_all(&verdict[..n]);
-    let mut count = [0u8; 64];
-    let m = dryrun::put_count(&mut count, s.sent, s.burned);
-    let _ = rt.write_all(&count[..m]);
-}
-
-// One call for each reply from a place on, each with the text that is lent; no input has more replies than bytes.
-#[tactic(auto, using(tape::proofs::Whole::found_within))]
-fn run(rt: &impl Print, begun: Handed, input: &[u8], text: &[u8], behind: usize) {
-    let mut handed = begun;
-    say_request(rt, handed.request);
-    let mut at = behind;
-    let mut left = input.len();
-    while 0 < left {
-        left -= 1;
-        let found = tape::reply_at(input, at);
-        match found {
-            Found::End => left = 0,
-            Found::Part => left = 0,
-            Found::Reply(kind, start, end) => {
-                let s = handed.session;
-                handed = s.reply(text, kind, &input[start..end]);
-                say_request(rt, handed.request);
-                at = end;
-            }
-        }
-    }
-    let last = handed.session;
-    let answer = handed.answer;
-    say_end(rt, last, answer.report());
-}
-
 // The morning's check, and behind it the socket: the text that is lent may be another than the file that was checked.
-#[tactic(auto, using(dryrun::proofs::Inside::header_within))]
-fn at_the_socket(rt: &impl Print, file: &[u8], input: &[u8]) {
-    match dryrun::parse(input) {
-        Input::CutShort => {
-            let _ = rt.write_all(b"cut short\n");
-        }
-        Input::TooLong => {
-            let _ = rt.write_all(b"too long\n");
-        }
-        Input::Whole(header) => {
-            let settings = header.settings;
-            let behind = header.behind;
-            let checked = image::check(file);
-            let answer = checked.answer;
-            say_checked(rt, answer.told());
-            run(
-                rt,
-                settings.begin_with(checked.summary),
-                input,
-                &input[FILE_AT..behind],
-                behind,
-            );
-        }
-    }
+#[tactic(auto, using(dryrun::proofs::Inside::front_within, dryrun::proofs::Inside::header_within))]
+fn at_the_socket(rt: &impl Print, input: &[u8]) -> Result<(), Unfit> {
+    let behind = dryrun::file_in_front(input)?;
+    let file = &input[LENGTH_BYTES..behind];
+    let input = &input[behind..];
+    let header = dryrun::parse(input)?;
+    let at = header.behind;
+    let text = &input[FILE_AT..at];
+    let checked = image::check(file);
+    say_checked(rt, checked.told());
+    let begun = header.settings.begin_with(checked.summary);
+    let _ = dryrun::write_run(&mut io::writer(rt), begun, text, Replies { input, at });
+    Ok(())
 }
 
-#[tactic(auto, using(dryrun::proofs::Inside::front_within))]
 fn main(rt: HostRuntime) {
     // One byte more than there is room for, so that a longer input is seen to be longer.
     let mut space = [0u8; 331215];
     let n = streams::fill(&mut rt.reader(), &mut space);
-    let input = &space[..n];
-    match dryrun::file_in_front(input) {
-        Part::CutShort => {
-            let _ = rt.write_all(b"cut short\n");
-        }
-        Part::TooLong => {
-            let _ = rt.write_all(b"too long\n");
-        }
-        Part::Whole(behind) => at_the_socket(&rt, &input[LENGTH_BYTES..behind], &input[behind..]),
+    if let Err(unfit) = at_the_socket(&rt, &space[..n]) {
+        let _ = println!(rt; "{unfit}");
     }
 }

@@ -1,16 +1,15 @@
 -- The twelve worked examples of document 01 ("Twelve examples for the proof, others for the run") in one table, and what it is
 -- that holds of each. Assumes nothing.
-use Rattle.std.specs.Prelude.{◌≡◌, List, [], ◌∷◌, ◌++◌, ℕ}
+use Rattle.std.specs.Prelude.{◌≡◌, List, [], ◌∷◌, ◌++◌, ℕ, Ok, Err}
 use Prim.Native.String.{String}
 use Rattle.text.specs.Text.{bytes_of}
 use Rattle.counts.specs.Counts.{line_number}
 use Rattle.line.specs.declared.Line.{Line}
 use Rattle.line.specs.declared.LineRefusal.{LineRefusal}
-use Rattle.line.specs.declared.LineReading.TheVariants as reading
 use Rattle.line.specs.Reading.{fault_number, read_line}
 use Rattle.image.specs.Says.{crc_of}
 use Rattle.bus.specs.declared.Request.{Request}
-use Rattle.bus.specs.declared.ReplyForm.TheVariants as form
+use Rattle.bus.specs.declared.Misreply.TheVariants.{Miscoded}
 use Rattle.guide.specs.Requests.{read_data, read_block}
 use Rattle.bus.specs.ReplyForm.{form_of}
 
@@ -25,19 +24,19 @@ pub data Example : Type 0 where
   coded : Request → List ℕ → (p w : ℕ) → Example
 
 unfoldable pub ExampleHolds : Example → Type 0
-ExampleHolds (good n text l) = read_line (line_number n) (bytes_of text) ≡ reading.Good l
-ExampleHolds (tells n text l crc) = (read_line (line_number n) (bytes_of text) ≡ reading.Good l) × (crc_of l ≡ crc)
+ExampleHolds (good n text l) = read_line (line_number n) (bytes_of text) ≡ Ok l
+ExampleHolds (tells n text l crc) = (read_line (line_number n) (bytes_of text) ≡ Ok l) × (crc_of l ≡ crc)
 ExampleHolds (refused n text number place) =
-    (r : LineRefusal) × (read_line (line_number n) (bytes_of text) ≡ reading.Refused r) × (fault_number r.fault ≡ number) × (r.place.0 ≡ place)
+    (r : LineRefusal) × (read_line (line_number n) (bytes_of text) ≡ Err r) × (fault_number r.fault ≡ number) × (r.place.0 ≡ place)
 -- and with another last byte it is not: the PEC is this one
-ExampleHolds (coded q bs p w) = (form_of q 1 (bs ++ (p ∷ [])) ≡ form.Good w) × ((x : ℕ) → (x ≡ p → ⊥) → form_of q 1 (bs ++ (x ∷ [])) ≡ form.Miscoded)
+ExampleHolds (coded q bs p w) = (form_of q 1 (bs ++ (p ∷ [])) ≡ Ok w) × ((x : ℕ) → (x ≡ p → ⊥) → form_of q 1 (bs ++ (x ∷ [])) ≡ Err Miscoded)
 
 -- command, data and CRC of a line with two data bytes, and with four
 abbrev two : ℕ → ℕ → ℕ → ℕ → Line
-two command a b crc = record { command = command; count = 2; d0 = a; d1 = b; d2 = 0; d3 = 0; crc = crc }
+two command a b crc = record { command = command; count = 2; bytes = a ∷ b ∷ 0 ∷ 0 ∷ []; crc = crc }
 
 abbrev four : ℕ → ℕ → ℕ → ℕ → ℕ → ℕ → Line
-four command a b c d crc = record { command = command; count = 4; d0 = a; d1 = b; d2 = c; d3 = d; crc = crc }
+four command a b c d crc = record { command = command; count = 4; bytes = a ∷ b ∷ c ∷ d ∷ []; crc = crc }
 
 abbrev pub twelve : List Example
 twelve =

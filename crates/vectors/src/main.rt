@@ -6,114 +6,101 @@ mod said;
 mod states;
 mod summaries;
 
-use counts::{Kind, KindFound};
-use guide::{Fit, Polled, Target, Words};
-use said::say;
+use counts::Kind;
+use guide::{Polled, Target, Words};
+use std::io;
 
-fn say_number(rt: &impl Print, number: u8) {
-    let _ = rt.print(number as u64);
-    say(rt, b"\n");
-}
-
-fn say_kind(rt: &impl Print, kind: Kind) {
+fn say_kind(rt: &impl Print, kind: Kind) -> io::Result<()> {
     match kind {
-        Kind::Legacy => say(rt, b"legacy\n"),
-        Kind::Production => say(rt, b"production\n"),
+        Kind::Legacy => println!(rt; "legacy"),
+        Kind::Production => println!(rt; "production"),
     }
 }
 
 // The kind wanted, or what 23 to 28 say of a file of this kind with one configuration whose identity and revision are right, where so many
 // places are kept free.
-fn judge(rt: &impl Print, kind: Kind, kept: u8, counter: u32, flag: u32) {
+fn judge(rt: &impl Print, kind: Kind, kept: u8, counter: u32, flag: u32) -> io::Result<()> {
     let target = Target {
-        kind: kind,
+        kind,
         identity: 0x49D28100,
         configs: 1,
     };
     let read = Words {
-        counter: counter,
+        counter,
         identity: 0x49D28100,
-        flag: flag,
+        flag,
         revision: 0x06000000,
     };
-    let fit = Fit::of(target, kept, read);
-    match fit {
-        Fit::Fails(reason) => say_number(rt, reason.number()),
-        Fit::Matched => {
-            let found = guide::kind_wanted(counter, flag);
-            match found {
-                KindFound::Is(wanted) => say_kind(rt, wanted),
-                KindFound::Unknown => say(rt, b"none\n"),
-            }
-        }
+    match target.fit(kept, read) {
+        Err(reason) => println!(rt; "{}", reason.number()),
+        Ok(()) => match guide::kind_wanted(counter, flag) {
+            Some(wanted) => say_kind(rt, wanted),
+            None => println!(rt; "none"),
+        },
     }
 }
 
 // Document 02, R-13: with two places kept free, k + 2 may not be more than the counter, and nothing else is judged otherwise.
-fn kept_free(rt: &impl Print) {
-    say(rt, b"k = 1, two kept, counter 2, flag 0, legacy file: ");
-    judge(rt, Kind::Legacy, 2, 2, 0);
-    say(rt, b"k = 1, two kept, counter 3, flag 0, legacy file: ");
-    judge(rt, Kind::Legacy, 2, 3, 0);
-    say(
-        rt,
-        b"k = 1, two kept, counter 2, flag FFFE0001, legacy file: ",
-    );
-    judge(rt, Kind::Legacy, 2, 2, 0xFFFE0001);
-    say(rt, b"two kept, counter 28, flag 0: ");
-    judge(rt, Kind::Production, 2, 28, 0);
-    say(rt, b"two kept, counter 29: ");
-    judge(rt, Kind::Production, 2, 29, 0);
+fn kept_free(rt: &impl Print) -> io::Result<()> {
+    print!(rt; "k = 1, two kept, counter 2, flag 0, legacy file: ")?;
+    judge(rt, Kind::Legacy, 2, 2, 0)?;
+    print!(rt; "k = 1, two kept, counter 3, flag 0, legacy file: ")?;
+    judge(rt, Kind::Legacy, 2, 3, 0)?;
+    print!(rt; "k = 1, two kept, counter 2, flag FFFE0001, legacy file: ")?;
+    judge(rt, Kind::Legacy, 2, 2, 0xFFFE0001)?;
+    print!(rt; "two kept, counter 28, flag 0: ")?;
+    judge(rt, Kind::Production, 2, 28, 0)?;
+    print!(rt; "two kept, counter 29: ")?;
+    judge(rt, Kind::Production, 2, 29, 0)
 }
 
-fn judge_status(rt: &impl Print, status: u32) {
-    let polled = Polled::of(status);
-    match polled {
-        Polled::Busy => say(rt, b"again\n"),
-        Polled::Passed => say(rt, b"passes\n"),
-        Polled::Failed => say_number(rt, guide::Reason::Program.number()),
+fn judge_status(rt: &impl Print, status: u32) -> io::Result<()> {
+    match Polled::of(status) {
+        Polled::Busy => println!(rt; "again"),
+        Polled::Passed => println!(rt; "passes"),
+        Polled::Failed => println!(rt; "{}", guide::Reason::Program.number()),
     }
 }
 
-fn judge_banks(rt: &impl Print, word: u32) {
+fn judge_banks(rt: &impl Print, word: u32) -> io::Result<()> {
+    print!(rt; "k = 2, banks {word:08X}: ")?;
     if guide::banks_right(2, word) {
-        say(rt, b"passes\n");
+        println!(rt; "passes")
     } else {
-        say_number(rt, guide::Reason::Banks.number());
+        println!(rt; "{}", guide::Reason::Banks.number())
     }
 }
 
-fn count(rt: &impl Print, kind: Kind, lines: u32) {
-    let _ = rt.print(kind.configs(lines) as u64);
-    say(rt, b" ");
-    say_kind(rt, kind);
+fn count(rt: &impl Print, kind: Kind, lines: u32) -> io::Result<()> {
+    print!(rt; "{lines} lines: {} ", kind.configs(lines))?;
+    say_kind(rt, kind)
+}
+
+fn judged(rt: &impl Print) -> io::Result<()> {
+    print!(rt; "counter 27, flag 0: ")?;
+    judge(rt, Kind::Legacy, 0, 27, 0)?;
+    print!(rt; "counter 28, flag 0: ")?;
+    judge(rt, Kind::Production, 0, 28, 0)?;
+    print!(rt; "counter 27, flag 1: ")?;
+    judge(rt, Kind::Legacy, 0, 27, 1)?;
+    print!(rt; "counter 29: ")?;
+    judge(rt, Kind::Legacy, 0, 29, 0)?;
+    print!(rt; "counter 0, flag 0, legacy file: ")?;
+    judge(rt, Kind::Legacy, 0, 0, 0)?;
+    kept_free(rt)?;
+    print!(rt; "status 41: ")?;
+    judge_status(rt, 0x41)?;
+    print!(rt; "status 09: ")?;
+    judge_status(rt, 0x09)?;
+    for banks in [0x00000011, 0x00000111, 0x00000010] {
+        judge_banks(rt, banks)?;
+    }
+    count(rt, Kind::Production, 738)?;
+    count(rt, Kind::Legacy, 349)
 }
 
 fn main(rt: HostRuntime) {
-    say(&rt, b"counter 27, flag 0: ");
-    judge(&rt, Kind::Legacy, 0, 27, 0);
-    say(&rt, b"counter 28, flag 0: ");
-    judge(&rt, Kind::Production, 0, 28, 0);
-    say(&rt, b"counter 27, flag 1: ");
-    judge(&rt, Kind::Legacy, 0, 27, 1);
-    say(&rt, b"counter 29: ");
-    judge(&rt, Kind::Legacy, 0, 29, 0);
-    say(&rt, b"counter 0, flag 0, legacy file: ");
-    judge(&rt, Kind::Legacy, 0, 0, 0);
-    kept_free(&rt);
-    say(&rt, b"status 41: ");
-    judge_status(&rt, 0x41);
-    say(&rt, b"status 09: ");
-    judge_status(&rt, 0x09);
-    say(&rt, b"k = 2, banks 00000011: ");
-    judge_banks(&rt, 0x00000011);
-    say(&rt, b"k = 2, banks 00000111: ");
-    judge_banks(&rt, 0x00000111);
-    say(&rt, b"k = 2, banks 00000010: ");
-    judge_banks(&rt, 0x00000010);
-    say(&rt, b"738 lines: ");
-    count(&rt, Kind::Production, 738);
-    say(&rt, b"349 lines: ");
-    count(&rt, Kind::Legacy, 349);
+    // What could not be written is passed over.
+    let _ = judged(&rt);
     states::run(&rt);
 }

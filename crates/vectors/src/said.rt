@@ -1,60 +1,42 @@
 // What a call of the session handed back, on one line: number, N, line and place, or that a reply is awaited; the request; count and burn.
 use bus::Request;
-use session::{Handed, Report};
+use session::Handed;
+use std::io;
+use summary::Told;
 
-pub(crate) fn say(rt: &impl Print, words: &[u8]) {
-    let _ = rt.write_all(words);
-}
-
-fn say_count(rt: &impl Print, words: &[u8], number: u64) {
-    say(rt, words);
-    let _ = rt.print(number);
-}
-
-fn say_report(rt: &impl Print, report: Report) {
+fn say_report(rt: &impl Print, report: Option<Told>) -> io::Result<()> {
     match report {
-        Report::Waiting => say(rt, b"waiting"),
-        Report::Is(told) => {
-            let _ = rt.print(told.number as u64);
-            say_count(rt, b" config ", told.config.0 as u64);
-            say_count(rt, b" line ", told.line.0 as u64);
-            say_count(rt, b" at ", told.place.0 as u64);
+        None => print!(rt; "waiting"),
+        Some(told) => {
+            let line = told.line.0;
+            let place = told.place.0;
+            print!(rt;
+                "{} config {} line {line} at {place}",
+                told.number, told.config.0
+            )
         }
     }
 }
 
-// All eight, used or not.
-fn say_bytes(rt: &impl Print, bytes: [u8; 8]) {
-    for i in 0..8usize {
-        let mut digits = [0u8; 2];
-        text::put_hex2(&mut digits, 0, bytes[i]);
-        say(rt, &digits);
+// All eight bytes, used or not.
+fn say_request(rt: &impl Print, q: Request) -> io::Result<()> {
+    print!(rt; " request ")?;
+    for byte in q.bytes {
+        print!(rt; "{byte:02X}")?;
     }
+    let does = if q.reads { "reads" } else { "writes" };
+    print!(rt; " used {} {does}", q.used)
 }
 
-fn say_request(rt: &impl Print, q: Request) {
-    let bytes = q.bytes;
-    say(rt, b" request ");
-    say_bytes(rt, bytes);
-    say_count(rt, b" used ", q.used as u64);
-    if q.reads {
-        say(rt, b" reads");
-    } else {
-        say(rt, b" writes");
-    }
-}
-
-pub(crate) fn say_handed(rt: &impl Print, words: &[u8], handed: Handed) {
-    let answer = handed.answer;
+fn say_line(rt: &impl Print, words: &str, handed: Handed) -> io::Result<()> {
     let s = handed.session;
-    say(rt, words);
-    say(rt, b": ");
-    say_report(rt, answer.report());
-    say_request(rt, handed.request);
-    say_count(rt, b", count ", s.sent as u64);
-    if s.burned {
-        say(rt, b" burn 1\n");
-    } else {
-        say(rt, b" burn 0\n");
-    }
+    print!(rt; "{words}: ")?;
+    say_report(rt, handed.answer.report())?;
+    say_request(rt, handed.request)?;
+    println!(rt; ", count {} burn {}", s.sent, u8::from(s.burned))
+}
+
+// What could not be written is passed over.
+pub(crate) fn say_handed(rt: &impl Print, words: &str, handed: Handed) {
+    let _ = say_line(rt, words, handed);
 }

@@ -1,6 +1,6 @@
--- The parts are put one behind the other. Assumes nothing.
+-- The pieces, one behind the other. Assumes nothing.
 use Rattle.std.proofs.Common.{arith}
-use Rattle.text.proofs.Laws.{run_one, run_more}
+use Rattle.text.proofs.Laws.{one, more, both}
 use Rattle.text.specs.Text.{bytes_of}
 use Rattle.dryrun.specs.Lines.{checked_line}
 use Rattle.dryrun.proofs.Lengths.{checked-length}
@@ -9,11 +9,5 @@ use Rattle.dryrun.proofs.lines.put_checked.Goals as goal
 pub returns : goal.returns
 unfolding checked_line bytes_of
 returns c =
-    let r0 = run_one c.put_bytes-a.ensures in
-    let r1 = run_more r0 c.put_decimal-b.ensures in
-    let r2 = run_more r1 c.put_bytes-c.ensures in
-    let r3 = run_more r2 c.put_decimal-d.ensures in
-    let r4 = run_more r3 c.put_bytes-e.ensures in
-    let r5 = run_more r4 c.put_decimal-f.ensures in
-    let r6 = run_more r5 c.put_bytes.ensures in
-    r6.fitting (omega (arith, c.told-out, checked-length c.args.told))
+    (both (more (one c.bytes.ensures) c.decimal.ensures) c.put_where.ensures).fitting
+    (omega (arith, c.told-out, checked-length c.args.told))
