@@ -2,11 +2,12 @@
 import glob, re
 from collections import namedtuple
 
-# `of` is the type that a method belongs to, or ''; `takes` is a list of (name, type); `requires` and `ensures` are '' where there is none
+# `of` is the type that a method belongs to, or ''; `takes` is a list of (name, type), the const parameters first; `requires` and `ensures`
+# are '' where there is none
 Function = namedtuple("Function", "path crate of name takes requires ensures")
 
 # a block that methods stand in, its end, or the head of a public function up to its parameters
-PARTS = re.compile(r'^(?:impl (\w+)|(\})|\s*pub (?:extern "C" )?fn (\w+)(?:<[^(]*>)?\()', re.M)
+PARTS = re.compile(r'^(?:impl (\w+)|(\})|\s*pub (?:extern "C" )?fn (\w+)(?:<([^(]*)>)?\()', re.M)
 
 
 def parameters(words, holder):
@@ -15,7 +16,7 @@ def parameters(words, holder):
     for part in re.split(r",(?![^\[]*\])", words):
         name, _, kind = (piece.strip() for piece in part.partition(":"))
         if name:
-            takes.append((name.replace("mut ", ""), kind or holder))
+            takes.append((re.sub(r"^&?(mut )?", "", name), kind or holder))
     return takes
 
 
@@ -37,9 +38,11 @@ def functions():
             text = source.read()
         crate, holder = path.split("/")[1], ""
         for part in PARTS.finditer(text):
-            block, end, name = part.groups()
+            block, end, name, generic = part.groups()
             if not name:
                 holder = block or ""
                 continue
             close = text.index(")", part.end())
-            yield Function(path, crate, holder, name, parameters(text[part.end() : close], holder), *contract(text[close:]))
+            consts = re.findall(r"const (\w+): (\w+)", generic or "")
+            takes = consts + parameters(text[part.end() : close], holder)
+            yield Function(path, crate, holder, name, takes, *contract(text[close:]))
