@@ -55,7 +55,8 @@ impl Bus {
     pub const CRC: u16 = 0x0094;
 
     // A write of the first `count` of four data bytes, with the PEC of all that goes out before it, by a lent table: a caller that
-    // has made the table already does not make it again. Behind the PEC stand zeros.
+    // has made the table already does not make it again. Behind the PEC stand zeros. Address, command and data stay apart, as the page
+    // names what goes out.
     #[tactic(auto, using(crate::proofs::Laws::laid))]
     pub fn write_with(
         address: u8,
@@ -107,7 +108,7 @@ impl Bus {
         }
     }
 
-    // A request of zeros, which is none: it comes with a verdict.
+    // A request of zeros, which is none: it comes with a verdict. No Option: document 01 has zeros put out (`no_request`).
     #[tactic(auto, unfolding(crate::specs::Bus::no_request, crate::specs::Bus::eight))]
     pub fn none() -> Request
         ensures { result ≡ no_request }

@@ -20,8 +20,8 @@ fn put_verb(page: &mut Page, reads: bool)
     }
 }
 
-// The used bytes. A request has eight bytes, also where more are said to be used. By index: over a slice of them the invariant's proof did not
-// close.
+// The used bytes. A request has eight bytes, also where more are said to be used. By index: over a slice of them the invariant's proof
+// did not close.
 fn put_used(page: &mut Page, bytes: [u8; 8], used: u8)
     ensures { PutsIfRoom page.old (used_hex bytes (at_most8 used)) page.new }
 {

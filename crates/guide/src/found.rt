@@ -31,6 +31,7 @@ fn bank_shows(word: u32, bank: Bank) -> u32
 }
 
 // Whether one of the first k configurations reports in this bank. `ConfigNumber::bank` alone says in which each does.
+// With `any` the proof did not close.
 #[tactic(auto, using(crate::proofs::Banks::reports_below), unfolding(crate::specs::Judged::reports_in))]
 fn reports_in(configs: u8, bank: Bank) -> bool
     ensures { result ≡ reports_in configs bank }
@@ -52,7 +53,7 @@ fn bank_right(configs: u8, word: u32, bank: Bank) -> bool
     bank_shows(word, bank) == u32::from(reports_in(configs, bank))
 }
 
-// All eight banks that the register shows.
+// All eight banks that the register shows. With `all` the proof did not close.
 #[tactic(auto, using(crate::proofs::Banks::every_on, crate::proofs::Banks::every_stop), unfolding(crate::specs::Judged::every_below, crate::specs::Judged::banks_right))]
 pub fn banks_right(configs: u8, word: u32) -> bool
     ensures { result ≡ banks_right configs word }

@@ -91,7 +91,7 @@ pub(crate) fn spots_of(s: &[u8], kind: Kind, k: usize) -> Option<Spots>
 }
 
 // Whether two of the first k identifiers are equal: the search over pairs is left at the first, by a label (document 01, "Where each form
-// belongs").
+// belongs"). The list and k stay two, as a summary and the definition have them.
 #[tactic(auto, using(crate::proofs::Pairs::in_found), unfolding(crate::specs::Private::Walk::same_in, crate::specs::Tests::some_below, crate::specs::Private::Walk::same_at))]
 pub(crate) fn same_in(ids: [ConfigId; 8], k: usize) -> bool
     requires { k ≤ 8 }

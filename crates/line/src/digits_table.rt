@@ -1,4 +1,5 @@
-// What each byte counts as: its value as a digit, and 16 where it is no digit.
+// What each byte counts as: its value as a digit, and 16 where it is no digit. A number and no Option, as `IsDigits` says it of any table
+// that a caller lends.
 pub static VALUES: [u8; 256] = [
     16, 16, 16, 16, 16, 16, 16, 16, 16, 16, 16, 16, 16, 16, 16, 16, 16, 16, 16, 16, 16, 16, 16, 16,
     16, 16, 16, 16, 16, 16, 16, 16, 16, 16, 16, 16, 16, 16, 16, 16, 16, 16, 16, 16, 16, 16, 16, 16,

@@ -46,7 +46,7 @@ fn command_ok(n: u32, command: u8) -> bool
     }
 }
 
-// Of a line that breaks the table: tag before address before command before count of data.
+// Of a line that breaks the table: tag before address before command before count of data. The bytes stay apart, as in `form_ok`.
 #[tactic(auto, unfolding(crate::specs::Places::form_place))]
 fn form_place(n: u32, tag: u8, address: u8, command: u8) -> usize
     ensures { result ≡ form_place n tag address command }

@@ -6,7 +6,7 @@ ghost use Rattle.line.specs.Lent.{ending_of};
 use crate::reader::Reader;
 
 impl Reader<'_> {
-    // How many digits a text starts with.
+    // How many digits a text starts with. With `position` the proof did not close.
     #[tactic(auto, using(crate::proofs::LineParts::run_on, crate::proofs::LineParts::run_stop, crate::proofs::LineParts::run_past))]
     pub(crate) fn run_of(self, t: &[u8]) -> usize
         ensures { result ≡ digit_run (digit_by self.entry.digits.now) t.now }

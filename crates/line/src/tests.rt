@@ -51,7 +51,7 @@ pub(crate) fn body_ok(command: u8, count: usize) -> bool
     }
 }
 
-// FORM: tag and address, and then the row by the line's number.
+// FORM: tag and address, and then the row by the line's number. The bytes stay apart, as in the page's table and in the definition.
 #[tactic(auto, unfolding(crate::specs::Reading::form_ok))]
 fn form_ok(n: u32, tag: u8, address: u8, command: u8, count: usize) -> bool
     ensures { result ≡ form_ok n tag address command count }

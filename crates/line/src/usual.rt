@@ -12,6 +12,7 @@ use crate::{ADDRESS, Line};
 use counts::LineNumber;
 
 impl Reader<'_> {
+    // By a `for` that ends early: with `all` the proof did not close.
     #[tactic(auto, using(crate::proofs::LineParts::digits_on, crate::proofs::LineParts::digits_stop, crate::proofs::LineParts::digits_past))]
     fn all_digits(self, t: &[u8]) -> bool
         ensures { result ≡ all_digits (digit_by self.entry.digits.now) t.now }

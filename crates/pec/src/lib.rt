@@ -52,7 +52,7 @@ pub fn step(register: u8, byte: u8) -> u8
     step_with(lent(), register, byte)
 }
 
-// The register after some bytes.
+// The register after some bytes, by the table that stands here, as `step`.
 #[tactic(auto, using(crate::proofs::Laws::run_right))]
 pub fn run(register: u8, bytes: &[u8]) -> u8
     ensures { result ≡ pec_from register bytes.now }

@@ -46,7 +46,7 @@ impl Settings {
     }
 }
 
-// No identifier of the first k is above 15.
+// No identifier of the first k is above 15. The list and k stay two, as a summary and `ids_to` have them.
 fn ids_sound(ids: [ConfigId; 8], k: u8) -> bool
     requires { k < 9 }
     ensures { result ≡ ids_to ids k }

@@ -7,7 +7,8 @@ mod turns;
 ghost use Rattle.std.specs.Prelude.{◌≡◌, length};
 ghost use Rattle.tape.specs.Replies.{found_at, whole_replies};
 
-// A reply that stands in the input: its kind, and where its bytes start and end.
+// A reply that stands in the input: its kind, and where its bytes start and end, places as `found_at` says them. The kind is any byte: an
+// input may say one that is none, and the session refuses it (21).
 #[derive(Clone, Copy)]
 pub struct Reply {
     pub kind: u8,
@@ -45,7 +46,8 @@ pub fn reply_at(input: &[u8], at: usize) -> Result<Option<Reply>, CutShort>
     Ok(Some(Reply { kind, start, end }))
 }
 
-// Whether the replies from a place on are whole. No input has more replies than bytes.
+// Whether the replies from a place on are whole. No input has more replies than bytes. With `all` the proof did
+// not close.
 #[tactic(auto, using(crate::proofs::Whole::whole_step), unfolding(crate::specs::Replies::whole_by))]
 pub fn replies_whole(input: &[u8], from: usize) -> bool
     ensures { result ≡ whole_replies (length input.now) input.now from }

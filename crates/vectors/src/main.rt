@@ -10,6 +10,7 @@ use counts::Kind;
 use guide::{Polled, Target, Words};
 use std::io;
 
+// No Display of `Kind`: `show` writes the words by `text`, and here alone they are printed.
 fn say_kind(rt: &impl Print, kind: Kind) -> io::Result<()> {
     match kind {
         Kind::Legacy => println!(rt; "legacy"),

@@ -5,6 +5,7 @@ use counts::ConfigId;
 use session::Settings;
 use summary::Summary;
 
+// Settings and summary stay two: each line says what was changed, and in which of them.
 fn begin(rt: &impl Print, words: &str, settings: Settings, file: Summary) {
     say_handed(rt, words, settings.begin_with(file));
 }
