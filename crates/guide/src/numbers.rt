@@ -21,7 +21,7 @@ impl From<Misreply> for Reason {
 }
 
 impl Reason {
-    // The number of the table of verdicts.
+    // The number of the table of verdicts. `Fault` and `Whole` have theirs, each of a table of its own; a trait would be no plainer.
     pub fn number(self) -> u8
         ensures { result ≡ reason_number self }
     {

@@ -56,7 +56,7 @@ pub type LineReading = Result<Line, LineRefusal>;
 pub type NextLine = Result<Option<(Line, usize)>, LineRefusal>;
 
 impl Fault {
-    // The document's number.
+    // The document's number. `Whole` and `Reason` have theirs, each of a table of its own; a trait over the three would be no plainer.
     pub fn number(self) -> u8
         ensures { result ≡ fault_number self }
     {

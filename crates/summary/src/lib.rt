@@ -79,7 +79,7 @@ impl Told {
 }
 
 impl Whole {
-    // The document's number.
+    // The document's number. `Fault` and `Reason` have theirs, each of a table of its own; a trait over the three would be no plainer.
     pub fn number(self) -> u8
         ensures { result ≡ whole_number self }
     {

@@ -1,6 +1,7 @@
 // Document 01, "15 STATE", which a dry run never meets, since it keeps a host's rules: for each reason a state in which one thing is
 // spoiled, or a text that is not the session's own, and what `reply` hands back. Beside them stands what is not 15. The file on
 // standard input is accepted, of production, with k = 2 and so n = 738; its line 1 has the identity of the page's examples.
+// Each reason spoils another field, so they stand line by line: a list of closures would be no plainer.
 use crate::said::say_handed;
 use crate::summaries;
 use bus::Bus;
