@@ -1,5 +1,5 @@
 //! The PEC by the proved functions against a plain table-driven loop in Rust: 64 KiB by the C entry, and 8 bytes by a table that
-//! is made once and lent, and by the C entry, which makes it anew.
+//! is made once and lent, and by the C entry, which goes by the table that stands in the archive.
 use crate::plain::REMAINDERS;
 use crate::times::{black_box, least, Row};
 

@@ -2,7 +2,7 @@
 // that it is given (document 02, R-2).
 #![tactic(auto)]
 
-ghost use Rattle.std.specs.Prelude.{◌≡◌, ◌+◌, ◌≤◌, length, take};
+ghost use Rattle.std.specs.Prelude.{◌≡◌, cond, ltb, ◌+◌, ◌≤◌, length, take};
 ghost use Rattle.bus.specs.declared.Request.{Request};
 ghost use Rattle.bus.specs.Bus.{write_of, write_with, read_address, read_of, no_request, reserved};
 ghost use Rattle.bus.specs.ReplyForm.{sealed_of, read_form, form_of};
@@ -19,6 +19,14 @@ pub struct Request {
 // A name for what belongs to the bus: its codes, its registers, and the constructors of its requests.
 #[derive(Clone, Copy)]
 pub struct Bus {}
+
+// A data byte that goes out, or a zero in its place. Byte by byte: a copy of so many bytes would be a call of memcpy, which an archive for C
+// would then need from outside.
+fn kept(place: usize, count: usize, byte: u8) -> u8
+    ensures { result ≡ cond (ltb place count) byte 0 }
+{
+    if place < count { byte } else { 0 }
+}
 
 impl Bus {
     // Command codes. The guide's direct memory access is three: C7 sets the register's address, C5 reads or writes there, C6 does
@@ -70,9 +78,18 @@ impl Bus {
         let [a, b, c, d] = four;
         let body = [address, command, a, b, c, d];
         let sent = 2 + count.min(4);
-        let mut bytes = [0; 8];
-        bytes[..sent].copy_from_slice(&body[..sent]);
-        bytes[sent] = pec::run_with(table, 0, &body[..sent]);
+        let code = pec::run_with(table, 0, &body[..sent]);
+        let mut bytes = [
+            address,
+            command,
+            kept(0, count, a),
+            kept(1, count, b),
+            kept(2, count, c),
+            kept(3, count, d),
+            0,
+            0,
+        ];
+        bytes[sent] = code;
         Request {
             bytes,
             used: sent as u8 + 1,
