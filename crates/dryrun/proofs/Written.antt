@@ -8,6 +8,7 @@ use lib.ListN.{length, take, drop}
 use borrow.Author.Tests.{leb-false}
 use lib.Seq.{take_at}
 use Rattle.std.specs.Prelude.{Option, Some, None, Result, Ok, Err, OnOk}
+use Rattle.std.specs.Result.{result_and}
 use Rattle.std.specs.Io.KnownBytes.{Appends}
 use Rattle.std.proofs.KnownBytes.{Appends-trans}
 use Rattle.promise.proofs.Basics.{split}
@@ -85,5 +86,7 @@ pub on_ok : {P Q E : Type 0} (r : Result (Unit {0}) E) → OnOk r P → (P → Q
 on_ok (Ok x) p f = f p
 on_ok (Err e) p f = tt
 
-pub after_ok : {E : Type 0} (a b c : Option (List ℕ)) (xs ys : List ℕ) (r : Result (Unit {0}) E) → Appends a b xs → OnOk r (Appends b c ys) → OnOk r (Appends a c (xs ++ ys))
-after_ok a b c xs ys r first second = on_ok r second (λ last. Appends-trans a b c xs ys first last)
+-- two calls, each of which was made whatever the other came to, went well where both did
+pub and_ok : {P Q R E : Type 0} (r s : Result (Unit {0}) E) → OnOk r P → OnOk s Q → (P → Q → R) → OnOk (result_and r s) R
+and_ok (Ok x) s p q f = on_ok s q (f p)
+and_ok (Err e) s p q f = tt

@@ -22,21 +22,21 @@ fn write_request<W: Write>(out: &mut W, q: Request) -> io::Result<()>
     out.write_all(&line[..n])
 }
 
-// How the session stands, and what it has put out.
+// How the session stands, and what it has put out. The second line is tried also where the first could not be written.
 #[tactic(auto, using(text::proofs::Laws::puts_inside, text::proofs::Laws::puts_taken))]
 fn write_end<W: Write>(out: &mut W, last: Handed) -> io::Result<()>
     ensures { OnOk result (Appends (W.contents out.old) (W.contents out.new) (end_lines last)) }
 {
     let mut verdict = [0u8; 112];
     let n = put_report(&mut verdict, last.answer.report());
-    out.write_all(&verdict[..n])?;
+    let said = out.write_all(&verdict[..n]);
     let mut count = [0u8; 64];
     let m = put_count(&mut count, last.session.sent, last.session.burned);
-    out.write_all(&count[..m])
+    said.and(out.write_all(&count[..m]))
 }
 
 // The line of each request that is put out, one call for each of the replies with the text that is lent, and how the session stands
-// where they end.
+// where they end. A line that could not be written keeps none behind it from being tried; the first failure is handed back.
 pub fn write_run<W: Write>(
     out: &mut W,
     begun: Handed,
@@ -47,13 +47,13 @@ pub fn write_run<W: Write>(
         (run_lines text.now replies.entry.input.now replies.entry.at begun)) }
 {
     let mut handed = begun;
-    write_request(out, handed.request)?;
+    let mut written = write_request(out, handed.request);
     for reply in replies {
         let Ok((kind, bytes)) = reply else {
             break;
         };
         handed = handed.session.reply(text, kind, bytes);
-        write_request(out, handed.request)?;
+        written = written.and(write_request(out, handed.request));
     }
-    write_end(out, handed)
+    written.and(write_end(out, handed))
 }

@@ -6,7 +6,6 @@
 mod device;
 
 use session::{Answer, Session, Settings};
-use std::io;
 use summary::{Summary, Told};
 
 // A simulated regulator. It judges nothing, and answers at its address, in form while it lasts (specs/Statements.antt).
@@ -70,117 +69,114 @@ fn program(settings: Settings, summary: Summary, file: &[u8], device: Regulator)
     }
 }
 
-fn say_report(rt: &impl Print, report: Option<Told>) -> io::Result<()> {
-    match report {
+// What could not be written is passed over, here and below, and what comes behind it is tried all the same.
+fn say_report(rt: &impl Print, report: Option<Told>) {
+    let _ = match report {
         None => print!(rt; "waiting"),
         Some(told) if told.number == 0 => print!(rt; "DONE"),
         Some(told) => print!(rt; "verdict {}", told.number),
-    }
+    };
 }
 
 // What the session reports, and what the regulator saw of it.
-fn say_run(rt: &impl Print, run: Run) -> io::Result<()> {
+fn say_run(rt: &impl Print, run: Run) {
     let burn = if run.session.burned {
         "put out"
     } else {
         "not put out"
     };
     let seen = run.regulator;
-    print!(rt; "  session: ")?;
-    say_report(rt, run.answer.report())?;
-    println!(rt; ", requests {}, burn {burn}", run.session.sent)?;
-    print!(rt; "  regulator: requests {}", seen.heard)?;
-    println!(rt; ", busy polls {}, burns {}", seen.waited, seen.burns)
+    let _ = print!(rt; "  session: ");
+    say_report(rt, run.answer.report());
+    let _ = println!(rt; ", requests {}, burn {burn}", run.session.sent);
+    let _ = print!(rt; "  regulator: requests {}", seen.heard);
+    let _ = println!(rt; ", busy polls {}, burns {}", seen.waited, seen.burns);
 }
 
 // What the morning's check says: whether there is anything to begin with.
-fn say_checked(rt: &impl Print, told: Told) -> io::Result<()> {
-    if told.number == 0 {
-        return println!(rt; "checked in the morning: accepted");
-    }
+fn say_checked(rt: &impl Print, told: Told) {
     let number = told.number;
     let line = told.line.0;
     let place = told.place.0;
-    println!(rt; "checked in the morning: refused, number {number}, line {line}, place {place}")
+    let _ = if number == 0 {
+        println!(rt; "checked in the morning: accepted")
+    } else {
+        println!(rt; "checked in the morning: refused, number {number}, line {line}, place {place}")
+    };
 }
 
 // One regulator after the other, each in its own way. Settings, summary and text stay three, as a station holds them: the loop to copy
 // is called with them, and with a struct it would not be plainer.
-fn boards(rt: &impl Print, settings: Settings, summary: Summary, file: &[u8]) -> io::Result<()> {
+fn boards(rt: &impl Print, settings: Settings, summary: Summary, file: &[u8]) {
     let fitting = Regulator::fitting(summary, 0xC0);
 
-    println!(rt; "a regulator that fits the file")?;
-    say_run(rt, program(settings, summary, file, fitting))?;
+    let _ = println!(rt; "a regulator that fits the file");
+    say_run(rt, program(settings, summary, file, fitting));
 
-    println!(rt; "a regulator that acknowledges 200 requests and no more")?;
+    let _ = println!(rt; "a regulator that acknowledges 200 requests and no more");
     let failing = Regulator {
         lasts: 200,
         ..fitting
     };
-    say_run(rt, program(settings, summary, file, failing))?;
+    say_run(rt, program(settings, summary, file, failing));
 
-    println!(rt; "a regulator whose counter shows 29")?;
+    let _ = println!(rt; "a regulator whose counter shows 29");
     let strange = Regulator {
         counter: 29,
         ..fitting
     };
-    say_run(rt, program(settings, summary, file, strange))?;
+    say_run(rt, program(settings, summary, file, strange));
 
-    println!(rt; "a regulator with one place more than the file needs, under rule 2")?;
+    let _ = println!(rt; "a regulator with one place more than the file needs, under rule 2");
     let scarce = fitting.left_with(summary.configs as u32 + 1);
     let keeping = Settings {
         rule: 2,
         ..settings
     };
-    say_run(rt, program(keeping, summary, file, scarce))?;
+    say_run(rt, program(keeping, summary, file, scarce));
 
-    println!(rt; "the same regulator, under rule 1")?;
-    say_run(rt, program(settings, summary, file, scarce))
+    let _ = println!(rt; "the same regulator, under rule 1");
+    say_run(rt, program(settings, summary, file, scarce));
 }
 
 // One that does not answer at C0.
-fn elsewhere(rt: &impl Print, settings: Settings, summary: Summary, file: &[u8]) -> io::Result<()> {
-    println!(rt; "a regulator that fits the file, at address 20")?;
+fn elsewhere(rt: &impl Print, settings: Settings, summary: Summary, file: &[u8]) {
+    let _ = println!(rt; "a regulator that fits the file, at address 20");
     let strapped = Regulator::fitting(summary, 0x20);
     let moved = Settings {
         address: 0x20,
         ..settings
     };
-    say_run(rt, program(moved, summary, file, strapped))?;
+    say_run(rt, program(moved, summary, file, strapped));
 
-    println!(rt; "the same regulator, asked at address C0")?;
-    say_run(rt, program(settings, summary, file, strapped))
+    let _ = println!(rt; "the same regulator, asked at address C0");
+    say_run(rt, program(settings, summary, file, strapped));
 }
 
 // A summary serves as many boards as there are, and is of one text.
-fn on_one_check(
-    rt: &impl Print,
-    settings: Settings,
-    summary: Summary,
-    file: &[u8],
-) -> io::Result<()> {
+fn on_one_check(rt: &impl Print, settings: Settings, summary: Summary, file: &[u8]) {
     let fitting = Regulator::fitting(summary, 0xC0);
 
-    println!(rt; "four boards on the one check, the third with a counter of 29")?;
+    let _ = println!(rt; "four boards on the one check, the third with a counter of 29");
     let strange = Regulator {
         counter: 29,
         ..fitting
     };
-    say_run(rt, program(settings, summary, file, fitting))?;
-    say_run(rt, program(settings, summary, file, fitting))?;
-    say_run(rt, program(settings, summary, file, strange))?;
-    say_run(rt, program(settings, summary, file, fitting))?;
+    say_run(rt, program(settings, summary, file, fitting));
+    say_run(rt, program(settings, summary, file, fitting));
+    say_run(rt, program(settings, summary, file, strange));
+    say_run(rt, program(settings, summary, file, fitting));
 
-    println!(rt; "a regulator that fits the file, while another text is lent")?;
-    say_run(rt, program(settings, summary, b"another text\n", fitting))
+    let _ = println!(rt; "a regulator that fits the file, while another text is lent");
+    say_run(rt, program(settings, summary, b"another text\n", fitting));
 }
 
 // The morning's check, and where it accepts, the boards.
-fn morning(rt: &impl Print, file: &[u8]) -> io::Result<()> {
+fn morning(rt: &impl Print, file: &[u8]) {
     let checked = image::check(file);
-    say_checked(rt, checked.told())?;
+    say_checked(rt, checked.told());
     if checked.answer.is_err() {
-        return Ok(());
+        return;
     }
     let settings = Settings {
         wanted: true,
@@ -189,15 +185,14 @@ fn morning(rt: &impl Print, file: &[u8]) -> io::Result<()> {
         rule: 1,
         address: 0xC0,
     };
-    boards(rt, settings, checked.summary, file)?;
-    elsewhere(rt, settings, checked.summary, file)?;
-    on_one_check(rt, settings, checked.summary, file)
+    boards(rt, settings, checked.summary, file);
+    elsewhere(rt, settings, checked.summary, file);
+    on_one_check(rt, settings, checked.summary, file);
 }
 
 fn main(rt: HostRuntime) {
     // One byte more than a file may have, so that a longer one is seen to be longer.
     let mut space = [0u8; 65537];
     let n = streams::fill(&mut rt.reader(), &mut space);
-    // What could not be written is passed over.
-    let _ = morning(&rt, &space[..n]);
+    morning(&rt, &space[..n]);
 }

@@ -4,7 +4,7 @@ use Rattle.std.specs.Borrow.{Bor}
 use Rattle.std.proofs.KnownBytes.{Appends-trans}
 use Rattle.tape.specs.declared.Replies.{Replies}
 use Rattle.dryrun.specs.Run.{end_lines, lines_from, run_lines}
-use Rattle.dryrun.proofs.Written.{reply_more, none_more, part_more, on_ok}
+use Rattle.dryrun.proofs.Written.{reply_more, none_more, part_more, on_ok, and_ok}
 use Rattle.dryrun.proofs.run.write_run.Goals as goal
 use Rattle.dryrun.proofs.run.write_run.Goals.{in-None, in-Some+in_default}
 
@@ -12,15 +12,16 @@ pub loop-reply-init : goal.loop-reply-init
 unfolding run_lines
 loop-reply-init g c =
     let same = c.into_iter-reply-iterator.ensures.into_iter_gives in
-    (ap (λ (r : Replies). r.input.now) same, λ whole rest. Appends-trans _ _ _ _ _ c.in_ok-write_request.ensures (rw same at rest))
+    (ap (λ (r : Replies). r.input.now) same, λ whole. on_ok c.write_request-written.result c.write_request-written.ensures (λ asked rest. Appends-trans _ _ _ _ _ asked (rw same at rest)))
 
 pub loop-reply-preserved : goal.loop-reply-preserved
 loop-reply-preserved g c =
     let steps = rw c.in-Ok.is at c.in-Some.ensures.steps in
     let same = ap (λ (b : Bor (List ℕ)). b.now) steps.0 in (
       same ∙ c.loop-reply.invariant.0,
-      λ whole rest. c.loop-reply.invariant.1 whole
-          (reply_more _ _ _ _ _ _ _ _ _ _ _ _ same steps.1.0 steps.1.1 c.reply-handed.ensures c.in_ok-write_request-2.ensures rest),
+      λ whole. rw c.and-written.ensures
+          (and_ok c.loop-reply.written c.write_request.result (c.loop-reply.invariant.1 whole) c.write_request.ensures
+          (λ before asked rest. before (reply_more _ _ _ _ _ _ _ _ _ _ _ _ same steps.1.0 steps.1.1 c.reply-handed.ensures asked rest))),
     )
 
 pub returns : goal.returns
@@ -31,4 +32,5 @@ returns g c =
       | in-None w ↦ none_more _ _ _ _ (rw w.in-None.is at c.next.ensures.steps).1
       | in-Some+in_default w ↦ part_more _ _ _ _ w.in_default.field-0 (rw w.in_default.is at w.in-Some.ensures.steps).1
     ] in
-    on_ok _ c.write_end.ensures (λ last. c.loop-reply.invariant.1 (g.W.Write.contents c.write_end.new.out) (rw over last))
+    rw c.and.ensures
+    (and_ok c.loop-reply.written c.write_end.result (c.loop-reply.invariant.1 (g.W.Write.contents c.write_end.new.out)) c.write_end.ensures (λ before last. before (rw over last)))
