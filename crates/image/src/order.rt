@@ -1,5 +1,6 @@
 // The tests of the whole file in the order of document 01, "Numbers for a file", less 12, which is unused (request R-9).
 ghost use Rattle.std.specs.Prelude.{◌≡◌, ◌≤◌};
+ghost use Rattle.image.specs.Tests.{too_long};
 ghost use Rattle.image.specs.Check.{answer_of};
 ghost use Rattle.image.specs.Private.Walk.{burn_amiss_in};
 ghost use Rattle.image.specs.Private.Rest.{AllGood, Counted, CountsAs, TriesAs, said_as};
@@ -11,6 +12,14 @@ use crate::walk::facts_of;
 use crate::{Facts, Spots};
 use counts::{Kind, LineNumber};
 use summary::{Refusal, Summary, Whole};
+
+// More bytes than a file may have. A function of its own, so that no written answer names the test: a wrong one is refused for what it says.
+#[tactic(auto, unfolding(crate::specs::Tests::too_long))]
+fn too_long(s: &[u8]) -> bool
+    ensures { result ≡ too_long s.now }
+{
+    65536 < s.len()
+}
 
 // The last line is not the burn, or an earlier one is.
 #[tactic(auto, unfolding(crate::specs::Private::Walk::burn_amiss_in))]
@@ -42,16 +51,17 @@ fn counted(s: &[u8], facts: Facts) -> Result<(Kind, u8), Whole>
     Ok((kind, configs))
 }
 
-// 10, 11, 13, or what the lines of the configurations say.
+// 10, 11, 13, or what the lines of the configurations say, which are read before the first of the three is tried.
 #[tactic(auto, using(crate::proofs::RestOfTests::few_configs, crate::proofs::RestOfTests::spot_stops, crate::proofs::RestOfTests::same_stops, crate::proofs::RestOfTests::accepts))]
 fn tried(s: &[u8], facts: Facts, kind: Kind, k: u8) -> Result<Spots, Whole>
     requires { Counted s.now facts kind k × (1 ≤ k) }
     ensures { TriesAs s.now kind k result }
 {
+    let read = spots_of(s, kind, k as usize);
     if burn_amiss(facts) {
         return Err(Whole::Burn);
     }
-    let Some(spots) = spots_of(s, kind, k as usize) else {
+    let Some(spots) = read else {
         return Err(Whole::Spot);
     };
     if same_in(spots.ids, k as usize) {
@@ -64,7 +74,7 @@ fn tried(s: &[u8], facts: Facts, kind: Kind, k: u8) -> Result<Spots, Whole>
 pub(crate) fn summary_of(s: &[u8]) -> Result<Summary, Refusal>
     ensures { result ≡ said_as s.now (answer_of s.now) }
 {
-    if 65536 < s.len() {
+    if too_long(s) {
         return Err(Whole::Size.into());
     }
     let facts = facts_of(s)?;
