@@ -10,18 +10,18 @@ ghost use Rattle.pec.specs.Lent.{IsTable, step_with, run_with};
 
 use remainders::TABLE;
 
-// A copy of the table.
-pub fn table() -> [u8; 256]
-    ensures { IsTable result }
-{
-    TABLE
-}
-
-// The table where it stands, lent for good.
+// The table where it stands, lent for good: what every run goes by.
 pub fn lent() -> &'static [u8; 256]
     ensures { IsTable result.now }
 {
     &TABLE
+}
+
+// A copy of it.
+pub fn table() -> [u8; 256]
+    ensures { IsTable result }
+{
+    *lent()
 }
 
 // The register after one more byte, by a lent table.
