@@ -61,6 +61,12 @@ enough (suc a) (suc b) s at h k = on (found_at s at) refl (λ end. enough a b s 
     on (Ok (Some reply)) e further = let lies = found_within s at reply e in further reply.end (omega arith) (omega arith)
     on (Err cut) e further = refl
 
-pub whole_step : (s : List ℕ) (at : ℕ) → whole_replies (length s) s at ≡ whole_by (found_at s at) (whole_replies (length s) s)
+pub whole_step : (left : ℕ) (s : List ℕ) (at : ℕ) → 0 < left → whole_replies left s at ≡ whole_by (found_at s at) (whole_replies (left - 1) s)
 unfolding whole_replies
-whole_step s at = enough (length s) (suc (length s)) s at (omega arith) (omega arith)
+whole_step zero s at h = absurd (let no : ⊥ = omega arith in no)
+whole_step (suc left) s at h = let e : suc left - 1 ≡ left = omega arith in rw e
+
+-- as many replies as the input has bytes are enough at each turn
+pub whole_turn : (s : List ℕ) (at : ℕ) → whole_replies (length s) s at ≡ whole_by (found_at s at) (whole_replies (length s) s)
+unfolding whole_replies
+whole_turn s at = enough (length s) (suc (length s)) s at (omega arith) (omega arith)

@@ -48,7 +48,7 @@ pub fn reply_at(input: &[u8], at: usize) -> Result<Option<Reply>, CutShort>
 
 // Whether the replies from a place on are whole. No input has more replies than bytes. With `all` the proof did
 // not close.
-#[tactic(auto, using(crate::proofs::Whole::whole_step), unfolding(crate::specs::Replies::whole_by))]
+#[tactic(auto, using(crate::proofs::Whole::whole_turn), unfolding(crate::specs::Replies::whole_by))]
 pub fn replies_whole(input: &[u8], from: usize) -> bool
     ensures { result ≡ whole_replies (length input.now) input.now from }
 {

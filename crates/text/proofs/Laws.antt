@@ -4,8 +4,8 @@ use mathlib.Core.List.{List, [], ◌∷◌, ◌++◌, append_assoc, append-nil}
 use Prim.Native.Nat.{ℕ, zero, suc, ◌+◌, ◌-◌, ◌/◌, ◌%◌, ◌≤◌, ◌<◌}
 use native.Mathlib.Omega.{arith}
 use lib.Dec.{ltb, leb}
-use lib.ListN.{length, set, take, drop, take-append-drop, length-append, length-drop}
-use lib.Seq.{take-length, take_at, drop_at, drop-drop, length-take-le}
+use lib.ListN.{length, set, take, drop, take-append-drop, length-append, length-drop, drop_of_length-le}
+use lib.Seq.{take-length, take_at, drop_at, drop-drop, length-take-le, drop-append-le}
 use borrow.Author.Tests.{le-leb, lt-leb, ltb-true, ltb-false, leb-true, leb-false}
 use borrow.Rule.Slice.PartMut.{put_mid}
 use Rattle.std.specs.Prelude.{◌==◌, true, false, not, min, Option, nat_lt}
@@ -16,7 +16,7 @@ use Rattle.promise.proofs.Basics.{split}
 use Rattle.text.specs.declared.Page.{Page}
 use Rattle.text.specs.Page.{PutsOn}
 use Rattle.text.specs.Private.Pieces.{PutsIfRoom}
-use Rattle.text.specs.Text.{glyph, digits, zeros_before, decimal, fits, put_at, behind, Puts}
+use Rattle.text.specs.Text.{glyph, digits, hex, zeros_before, decimal, fits, put_at, behind, Puts}
 
 -- ---- digits
 
@@ -26,10 +26,32 @@ digits-length base zero n = refl
 digits-length base (suc places) n = omega (arith, length-append (digits base places (n / base)) (glyph (n % base) ∷ []), digits-length base places (n / base))
 
 -- one digit more, from the end
-digits_on : (base i n : ℕ) → 0 < i → digits base i n ≡ digits base (i - 1) (n / base) ++ (glyph (n % base) ∷ [])
+pub digits_on : (base i n : ℕ) → 0 < i → digits base i n ≡ digits base (i - 1) (n / base) ++ (glyph (n % base) ∷ [])
 unfolding digits
 digits_on base zero n h = absurd (let no : ⊥ = omega arith in no)
 digits_on base (suc i) n h = let e : suc i - 1 ≡ i = omega arith in rw e
+
+-- the last digits of more digits
+pub digits_last : (base more width n : ℕ) → drop more (digits base (more + width) n) ≡ digits base width n
+unfolding digits
+digits_last base more zero n =
+    let e : more + zero ≡ more = omega arith in
+    rw e (drop_of_length-le (digits base more n) {i = more} (omega (arith, digits-length base more n)))
+digits_last base more (suc width) n =
+    let e : more + suc width ≡ suc (more + width) = omega arith in
+    rw e (drop-append-le more (digits base (more + width) (n / base)) (glyph (n % base) ∷ []) (omega (
+      arith,
+      digits-length base (more + width)
+          (n / base),
+    )) ∙ rw (digits_last base more width (n / base)))
+
+-- eight hex digits, cut as a slice to the last
+pub hex_cut : (width n : ℕ) {s : List ℕ} → width ≤ 8 → s ≡ digits 16 8 n → take (8 - (8 - width)) (drop (8 - width) s) ≡ hex width n
+hex_cut width n {s} h e =
+    let eight : 8 - width + width ≡ 8 = omega arith in
+    let length-s : length s ≡ 8 = ap length e ∙ digits-length 16 8 n in
+    let left : 8 - (8 - width) ≡ length (drop (8 - width) s) = omega (arith, length-drop (8 - width) s) in
+    rw (left, take-length) (rw e (rw eight at (digits_last 16 (8 - width) width n)))
 
 -- a turn of the loop that spells from the end: the last digit of the rest is stored before what stands from i on
 pub digits_turn : (base i rest : ℕ) (out : List ℕ) → 0 < i → i ≤ length out →
@@ -42,7 +64,7 @@ digits_turn base i rest out h k =
 -- ---- leading zeros
 
 -- those before the first digit that is none, and no more than all digits but the last
-zeros_least : (s : List ℕ) → 0 < length s → zeros_before s ≡ min (position_or_len (λ d. not (d == 48)) s) (length s - 1)
+pub zeros_least : (s : List ℕ) → 0 < length s → zeros_before s ≡ min (position_or_len (λ d. not (d == 48)) s) (length s - 1)
 unfolding zeros_before
 zeros_least [] h = absurd (let no : ⊥ = omega arith in no)
 zeros_least (d ∷ []) h = omega arith
@@ -50,7 +72,7 @@ zeros_least (d ∷ e ∷ ds) h =
     split (d == 48) (λ t. simp t (omega (arith, zeros_least (e ∷ ds) (omega arith)))) (λ t. simp t (omega arith))
 
 -- and so where the first digit stands that is none, or the last digit
-zeros_found : (s : List ℕ) → length s ≡ 20 → unwrap_or (position (λ d. not (d == 48)) s) 19 ≡ zeros_before s
+pub zeros_found : (s : List ℕ) → length s ≡ 20 → unwrap_or (position (λ d. not (d == 48)) s) 19 ≡ zeros_before s
 zeros_found s h =
     let least = zeros_least s (omega arith) in
     let z = position_or_len (λ d. not (d == 48)) s in
@@ -59,14 +81,18 @@ zeros_found s h =
     (λ t. let k : length s ≤ z = ltb-false z (length s) t in rw t (omega arith))
 
 -- the twenty digits, cut as a slice behind their zeros
-pub decimal_cut : (n : ℕ) {s : List ℕ} {r : Option ℕ} → s ≡ digits 10 20 n → r ≡ position (λ d. not (d == 48)) s →
-    take (20 - unwrap_or r 19) (drop (unwrap_or r 19) s) ≡ decimal n
+pub decimal_cut : (n : ℕ) {s : List ℕ} → s ≡ digits 10 20 n → take (20 - zeros_before s) (drop (zeros_before s) s) ≡ decimal n
 unfolding decimal
-decimal_cut n {s} e f =
+decimal_cut n {s} e =
     let twenty : length s ≡ 20 = ap length e ∙ digits-length 10 20 n in
     let z = zeros_before s in
     let left : 20 - z ≡ length (drop z s) = omega (arith, length-drop z s) in
-    rw (f, zeros_found s twenty, left, take-length) (ap (λ (l : List ℕ). drop (zeros_before l) l) e)
+    rw (left, take-length) (ap (λ (l : List ℕ). drop (zeros_before l) l) e)
+
+-- and so cut where the first digit stands that is no zero
+pub decimal_found : (n : ℕ) {s : List ℕ} {r : Option ℕ} → s ≡ digits 10 20 n → r ≡ position (λ d. not (d == 48)) s →
+    take (20 - unwrap_or r 19) (drop (unwrap_or r 19) s) ≡ decimal n
+decimal_found n {s} e f = rw (f, zeros_found s (ap length e ∙ digits-length 10 20 n)) (decimal_cut n e)
 
 -- ---- text at a place
 
@@ -79,11 +105,11 @@ module _ (out : List ℕ) (at : ℕ) (bs : List ℕ) where
   unfolding behind fits
   behind_fits h = rw (le-leb (at + length bs) (length out) h)
 
-  put_not : length out < at + length bs → put_at out at bs ≡ out
+  pub put_not : length out < at + length bs → put_at out at bs ≡ out
   unfolding put_at fits
   put_not h = rw (lt-leb (at + length bs) (length out) h)
 
-  behind_not : length out < at + length bs → behind out at bs ≡ at
+  pub behind_not : length out < at + length bs → behind out at bs ≡ at
   unfolding behind fits
   behind_not h = rw (lt-leb (at + length bs) (length out) h)
 
@@ -149,7 +175,7 @@ pub run_more : {before mid after xs ys : List ℕ} {at next behindBoth : ℕ} �
 run_more {xs = xs} {ys = ys} r q = record { fitting = λ room. puts_then room (r.fitting (omega (arith, length-append xs ys))) q }
 
 -- no text changes nothing
-puts_none : (before : List ℕ) (at : ℕ) → Puts before at [] before at
+pub puts_none : (before : List ℕ) (at : ℕ) → Puts before at [] before at
 puts_none before at =
     let none : at + length {A = ℕ} [] ≡ at = omega arith in
     split (leb (at + length {A = ℕ} []) (length before))
@@ -164,11 +190,11 @@ puts_none before at =
     record { place = sym (behind_not before at [] past); content = sym (put_not before at [] past) })
 
 -- the place behind a text that fits
-puts_place : {before bs after : List ℕ} {at next : ℕ} → Puts before at bs after next → at + length bs ≤ length before → next ≡ at + length bs
+pub puts_place : {before bs after : List ℕ} {at next : ℕ} → Puts before at bs after next → at + length bs ≤ length before → next ≡ at + length bs
 puts_place {before} {bs} {after} {at} p room = p.place ∙ behind_fits before at bs room
 
 -- a buffer keeps its length
-puts-length : {before bs after : List ℕ} {at next : ℕ} → Puts before at bs after next → length after ≡ length before
+pub puts-length : {before bs after : List ℕ} {at next : ℕ} → Puts before at bs after next → length after ≡ length before
 puts-length {before} {bs} {after} {at} p =
     split (leb (at + length bs) (length before))
     (λ t.
@@ -191,7 +217,7 @@ unfolding decimal
 decimal-length n = omega (arith, length-drop (zeros_before (digits 10 20 n)) (digits 10 20 n), digits-length 10 20 n)
 
 -- the place stays within the buffer
-puts_within : {before bs after : List ℕ} {at next : ℕ} → Puts before at bs after next → at ≤ length before → next ≤ length before
+pub puts_within : {before bs after : List ℕ} {at next : ℕ} → Puts before at bs after next → at ≤ length before → next ≤ length before
 puts_within {before} {bs} {after} {at} {next} p h =
     split (leb (at + length bs) (length before))
     (λ t.

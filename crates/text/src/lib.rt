@@ -80,7 +80,7 @@ fn first_digit(spelled: &[u8]) -> Option<usize>
 }
 
 // A decimal without leading zeros.
-#[tactic(auto, using(crate::proofs::Laws::decimal_cut))]
+#[tactic(auto, using(crate::proofs::Laws::decimal_found))]
 pub fn put_decimal(out: &mut [u8], at: usize, n: u64) -> usize
     ensures { Puts out.old at (decimal n) out.new result }
 {
