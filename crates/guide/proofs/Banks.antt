@@ -7,7 +7,6 @@ use native.Mathlib.Numerals.{add-one}
 use native.Mathlib.Omega.{arith}
 use lib.Dec.{eqb, ltb}
 use borrow.Author.Tests.{ltb-true, ltb-false, eqb-true, eqb-false, ne_eqb}
-use Rattle.counts.specs.declared.Bank.{Bank}
 use Rattle.promise.proofs.Basics.{split}
 use Rattle.guide.specs.Judged.{every_below, bank, bank_in, reports_in, bank_right, banks_right}
 use Rattle.guide.specs.Course.{RightBanks}
@@ -43,18 +42,6 @@ reports_from : (k b : ℕ) → k ≤ b → reports_in k (bank b) ≡ false
 unfolding reports_in
 reports_from zero b h = refl
 reports_from (suc k) b h = rw (ne_eqb k b (λ e. omega arith)) (reports_from k b (omega arith))
-
--- a bank is four bits
-four_bits : (b : ℕ) → 2 ^ (4 * b) ≡ 16 ^ b
-four_bits zero = refl
-four_bits (suc b) =
-    let four : 4 * suc b ≡ suc (suc (suc (suc (4 * b)))) = omega arith in
-    rw (four, pow-succ' 2 (suc (suc (suc (4 * b)))), pow-succ' 2 (suc (suc (4 * b))), pow-succ' 2 (suc (4 * b)), pow-succ' 2 (4 * b), pow-succ' 16 b)
-    (omega (arith, four_bits b))
-
-pub bank_shifted : (w : ℕ) (b : Bank) → w / 2 ^ (4 * b.0) % 16 ≡ bank_in w b
-unfolding bank_in
-bank_shifted w b = rw (four_bits b.0) refl
 
 module _ (k word : ℕ) where
   pub are_right : RightBanks k word → banks_right k word ≡ true

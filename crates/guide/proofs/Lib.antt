@@ -2,6 +2,7 @@ pub mod JudgedExactly
 pub mod FitExactly
 pub mod BeginsAndSettles
 pub mod Banks
+pub mod BankShift
 pub mod SameKind
 pub mod FileFacts
 pub mod Through

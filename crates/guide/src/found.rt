@@ -22,7 +22,7 @@ impl Polled {
 }
 
 // The bank's part of the register: bank b is bits 4b+3 to 4b.
-#[tactic(auto, using(crate::proofs::Banks::bank_shifted))]
+#[tactic(auto, using(crate::proofs::BankShift::bank_shifted))]
 fn bank_shows(word: u32, bank: Bank) -> u32
     requires { bank.0 < 8 }
     ensures { result ≡ bank_in word bank }
